@@ -1,0 +1,5 @@
+pub mod Joins
+pub mod Operators
+pub mod Plans
+pub mod Sinks
+pub mod Tables

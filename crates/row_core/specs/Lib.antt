@@ -1,0 +1,4 @@
+pub mod Bags
+pub mod Exprs
+pub mod Operands
+pub mod Values
