@@ -1,0 +1,39 @@
+ghost use Rattle.std.specs.Prelude.{◌≡◌};
+
+use crate::Commit;
+use std::marker::Model;
+
+/// Commits, the earliest first.
+#[derive(Debug, Drop)]
+pub struct Commits {
+    items: Vec<Commit>,
+}
+
+impl Model for Commits {
+    ghost use Rattle.std.specs.Prelude.{List};
+    ghost use Rattle.estate.specs.declared.commit.Commit.{Commit};
+
+    ghost Value = { List Commit };
+
+    ghost view = { λ list. list.items.items };
+}
+
+impl Commits {
+    pub fn from_vec(items: Vec<Commit>) -> Self
+        ensures { result ≡ items.items }
+    {
+        Commits { items }
+    }
+
+    pub fn into_vec(self) -> Vec<Commit>
+        ensures { result.items ≡ self }
+    {
+        self.items
+    }
+
+    pub fn as_slice(&self) -> &[Commit]
+        ensures { result.now ≡ self.now }
+    {
+        self.items.as_slice()
+    }
+}

@@ -1,0 +1,37 @@
+ghost use Rattle.std.specs.Prelude.{◌≡◌};
+
+use std::marker::Model;
+
+/// The sizes of a table's files, in bytes, in the order of the files.
+#[derive(Debug, Drop)]
+pub struct Sizes {
+    items: Vec<u64>,
+}
+
+impl Model for Sizes {
+    ghost use Rattle.std.specs.Prelude.{List, ℕ};
+
+    ghost Value = { List ℕ };
+
+    ghost view = { λ list. list.items.items };
+}
+
+impl Sizes {
+    pub fn from_vec(items: Vec<u64>) -> Self
+        ensures { result ≡ items.items }
+    {
+        Sizes { items }
+    }
+
+    pub fn into_vec(self) -> Vec<u64>
+        ensures { result.items ≡ self }
+    {
+        self.items
+    }
+
+    pub fn as_slice(&self) -> &[u64]
+        ensures { result.now ≡ self.now }
+    {
+        self.items.as_slice()
+    }
+}
