@@ -167,3 +167,11 @@ module _ (writes : List ℕ → List ℕ → Type 0) (part : Option StoredPart) 
 
 pub leads_stays : (a b c : World) → IsWorld a → IsWorld b → IsWorld c → Leads Stays a b → Leads Stays b c → Leads Stays a c
 leads_stays a b c lawful_a lawful_b lawful_c first second = leads_before Same None None a b c lawful_a lawful_b lawful_c first second
+
+-- a call that changes nothing, as one that may change something
+pub leads_more : (writes : List ℕ → List ℕ → Type 0) (part : Option StoredPart) (commit : Option Commit) (a b : World) → ((log : List ℕ) → writes log log) → Leads Stays a b → Leads (Step writes part commit) a b
+leads_more writes part commit a b same first = record {
+  time = first.time;
+  holding = λ told. step_stays writes part commit same a.holding b.holding (first.holding told);
+  images = λ image since. let from = first.images image since in (from.0, from.1, step_stays writes part commit same from.0 image from.2);
+}

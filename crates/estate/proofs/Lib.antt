@@ -1,1 +1,5 @@
+pub mod ContentsKept
+pub mod Keeping
 pub mod Leading
+pub mod Sinking
+pub mod Torn

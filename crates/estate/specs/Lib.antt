@@ -1,7 +1,10 @@
 pub mod Changes
 pub mod Contents
 pub mod Holding
+pub mod Memory
 pub mod Parts
+pub mod PastLaws
+pub mod Pasts
 pub mod Printed
 pub mod Readings
 pub mod World

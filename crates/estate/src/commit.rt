@@ -1,4 +1,7 @@
-use row_core::Bytes;
+ghost use Rattle.std.specs.Prelude.{◌≡◌, IfOk};
+
+use row_core::{Bytes, NoMemory};
+use std::alloc::Global;
 
 /// What the sink was given under an id: the job's text, and the text that it committed.
 #[derive(Debug, Drop)]
@@ -6,4 +9,32 @@ pub struct Commit {
     pub id: Bytes,
     pub job: Bytes,
     pub text: Bytes,
+}
+
+impl Commit {
+    pub fn from_slices(
+        alloc: Global,
+        id: &[u8],
+        job: &[u8],
+        text: &[u8],
+    ) -> Result<Commit, NoMemory>
+        ensures { IfOk result (λ made. made ≡ record { id = id.now; job = job.now; text = text.now }) }
+    {
+        Ok(Commit {
+            id: Bytes::from_slice(alloc, id)?,
+            job: Bytes::from_slice(alloc, job)?,
+            text: Bytes::from_slice(alloc, text)?,
+        })
+    }
+
+    pub fn copy(&self, alloc: Global) -> Result<Commit, NoMemory>
+        ensures { IfOk result (λ made. made ≡ self.now) }
+    {
+        Commit::from_slices(
+            alloc,
+            self.id.as_slice(),
+            self.job.as_slice(),
+            self.text.as_slice(),
+        )
+    }
 }

@@ -1,6 +1,8 @@
-ghost use Rattle.std.specs.Prelude.{◌≡◌};
+ghost use Rattle.std.specs.Prelude.{◌≡◌, [], ◌∷◌, ◌++◌, IfOk, OnOk, OnErr};
 
 use crate::Commit;
+use row_core::NoMemory;
+use std::alloc::Global;
 use std::marker::Model;
 
 /// Commits, the earliest first.
@@ -19,6 +21,14 @@ impl Model for Commits {
 }
 
 impl Commits {
+    pub fn new(alloc: Global) -> Self
+        ensures { result ≡ [] }
+    {
+        Commits {
+            items: Vec::new(alloc),
+        }
+    }
+
     pub fn from_vec(items: Vec<Commit>) -> Self
         ensures { result ≡ items.items }
     {
@@ -35,5 +45,13 @@ impl Commits {
         ensures { result.now ≡ self.now }
     {
         self.items.as_slice()
+    }
+
+    pub fn push(&mut self, item: Commit) -> Result<(), NoMemory>
+        ensures ok { OnOk result (self.new ≡ self.old ++ item ∷ []) }
+        ensures err { OnErr result (self.new ≡ self.old) }
+    {
+        self.items.push(item)?;
+        Ok(())
     }
 }

@@ -1,5 +1,7 @@
-ghost use Rattle.std.specs.Prelude.{◌≡◌};
+ghost use Rattle.std.specs.Prelude.{◌≡◌, [], ◌∷◌, ◌++◌, IfOk, OnOk, OnErr};
 
+use row_core::NoMemory;
+use std::alloc::Global;
 use std::marker::Model;
 
 /// The sizes of a table's files, in bytes, in the order of the files.
@@ -17,6 +19,14 @@ impl Model for Sizes {
 }
 
 impl Sizes {
+    pub fn new(alloc: Global) -> Self
+        ensures { result ≡ [] }
+    {
+        Sizes {
+            items: Vec::new(alloc),
+        }
+    }
+
     pub fn from_vec(items: Vec<u64>) -> Self
         ensures { result ≡ items.items }
     {
@@ -33,5 +43,13 @@ impl Sizes {
         ensures { result.now ≡ self.now }
     {
         self.items.as_slice()
+    }
+
+    pub fn push(&mut self, item: u64) -> Result<(), NoMemory>
+        ensures ok { OnOk result (self.new ≡ self.old ++ item ∷ []) }
+        ensures err { OnErr result (self.new ≡ self.old) }
+    {
+        self.items.push(item)?;
+        Ok(())
     }
 }

@@ -72,8 +72,8 @@ job = record { op = Source (codes "orders") (record { name = codes "id"; kind = 
 abbrev large : Pred
 large = Test Ge (Col 2) (Const (number 10))
 
-large_is : (row : List Value) → is_yes (truth_of row large) ≡ is_yes (compared Ge (get_or row 2 Null) (number 10))
-large_is row = ap is_yes (truth_of-Test row Ge (Col 2) (Const (number 10)) ∙ (λ i. compared Ge (value_at-Col row 2 i) (value_at-Const row (number 10) i)))
+large_is : (values : List Value) → is_yes (truth_of values large) ≡ is_yes (compared Ge (get_or values 2 Null) (number 10))
+large_is values = ap is_yes (truth_of-Test values Ge (Col 2) (Const (number 10)) ∙ (λ i. compared Ge (value_at-Col values 2 i) (value_at-Const values (number 10) i)))
 
 filter_by : (p q : List Value → Bool) → ((row : List Value) → p row ≡ q row) → (rows : List (List Value)) → filter p rows ≡ filter q rows
 filter_by p q e [] = refl
@@ -84,7 +84,7 @@ orders = codes "1,Bonn,20\n2,Kiel,5\n3,Bonn,10\n"
 
 job_rows : filtered large (table_rows (IntKind ∷ TextKind ∷ IntKind ∷ []) orders) ≡ (number 1 ∷ Text (codes "Bonn") ∷ number 20 ∷ []) ∷ (number 3 ∷ Text (codes "Bonn") ∷ number 10 ∷ []) ∷ []
 unfolding csv_on_literals
-job_rows = filter_by (λ row. is_yes (truth_of row large)) (λ row. is_yes (compared Ge (get_or row 2 Null) (number 10))) large_is (table_rows (IntKind ∷ TextKind ∷ IntKind ∷ []) orders) ∙ refl
+job_rows = filter_by (λ row. is_yes (truth_of row large)) (λ values. is_yes (compared Ge (get_or values 2 Null) (number 10))) large_is (table_rows (IntKind ∷ TextKind ∷ IntKind ∷ []) orders) ∙ refl
 
 job_text : (rows : List (List Value)) → filtered large (table_rows (IntKind ∷ TextKind ∷ IntKind ∷ []) orders ++ []) ≡ rows
     → committed_text (λ table. orders ∷ []) job ≡ codes "sink " ++ codes "out" ++ (10 ∷ sorted_lines rows) ++ []

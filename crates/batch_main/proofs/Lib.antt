@@ -1,0 +1,7 @@
+mod Examples
+mod KeptRows
+mod Laws
+mod OneCommit
+mod Plans
+mod Shapes
+mod TableRows

@@ -1,0 +1,58 @@
+use Rattle.std.proofs.Common.{◌≡◌, ℕ, Bool, true, false, Some, None, Option, IsTrue, List, ◌∷◌, ◌++◌, [], is_some, refl, sym, subst, ◌∙◌, ap}
+use Rattle.estate.specs.Changes.{Same}
+use Rattle.estate.specs.Contents.{KeepsContents}
+use Rattle.estate.specs.declared.commit.Commit.{Commit}
+use Rattle.estate.proofs.ContentsKept.{keeps_contents_on}
+use Rattle.estate.proofs.Leading.{leads_after, told_on}
+use Rattle.batch_main.specs.Answers.{printed_line}
+use Rattle.batch_main.specs.declared.answer.Answer.TheVariants.{Finished}
+use Rattle.batch_main.proofs.OneCommit.{is_commit_of, once_under}
+use Rattle.batch_main.proofs.commit_job.commit_job.Goals as goal
+
+nothing_found : {A : Type 0} (found : Option A) (test : Bool) → test ≡ is_some found → test ≡ false → found ≡ None
+nothing_found None test is unset = refl
+nothing_found (Some x) test is unset = cc
+
+pub returns-in_err-sink_commit-clause-adds : goal.returns-in_err-sink_commit-clause-adds
+returns-in_err-sink_commit-clause-adds g c =
+    let contents = g.I.Inputs.contents in
+    let law = g.met.E.Estate.lawful in
+    let keeps = keeps_contents_on (contents c.args.inputs.now) (contents c.job_text.new.self) (contents c.file_count.new.inputs) c.job_text.ensures.keeps c.file_count.ensures.keeps in
+    record {
+      commit = Some (record { id = c.in_ok-job.job.name; job = c.in_ok-text.text; text = c.in_ok-committed.committed });
+      is = is_commit_of (contents c.args.inputs.now) (contents c.file_count.new.inputs) keeps c.in_ok-text.text c.in_ok-text.ensures.text c.in_ok-job.job c.in_ok-job.ensures.job
+          c.in_ok-rows.rows c.in_ok-rows.ensures.rows c.in_ok-committed.committed c.in_ok-committed.ensures;
+      leads = leads_after Same None (Some _) _ _ _ (law c.args.estate.now) (law c.sink_committed.new.self) (law c.sink_commit.new.self) (λ log. refl) c.sink_committed.ensures.leads c.sink_commit.ensures.leads;
+    }
+
+pub returns-clause-adds : goal.returns-clause-adds
+returns-clause-adds g c =
+    let contents = g.I.Inputs.contents in
+    let law = g.met.E.Estate.lawful in
+    let keeps = keeps_contents_on (contents c.args.inputs.now) (contents c.job_text.new.self) (contents c.file_count.new.inputs) c.job_text.ensures.keeps c.file_count.ensures.keeps in
+    record {
+      commit = Some (record { id = c.in_ok-job.job.name; job = c.in_ok-text.text; text = c.in_ok-committed.committed });
+      is = is_commit_of (contents c.args.inputs.now) (contents c.file_count.new.inputs) keeps c.in_ok-text.text c.in_ok-text.ensures.text c.in_ok-job.job c.in_ok-job.ensures.job
+          c.in_ok-rows.rows c.in_ok-rows.ensures.rows c.in_ok-committed.committed c.in_ok-committed.ensures;
+      leads = leads_after Same None (Some _) _ _ _ (law c.args.estate.now) (law c.sink_committed.new.self) (law c.sink_commit.new.self) (λ log. refl) c.sink_committed.ensures.leads c.sink_commit.ensures.leads;
+    }
+
+pub returns-clause-committed : goal.returns-clause-committed
+returns-clause-committed g c = λ told.
+    let contents = g.I.Inputs.contents in
+    let world = g.E.Estate.world in
+    let keeps = keeps_contents_on (contents c.args.inputs.now) (contents c.job_text.new.self) (contents c.file_count.new.inputs) c.job_text.ensures.keeps c.file_count.ensures.keeps in
+    let commit : Commit = record { id = c.in_ok-job.job.name; job = c.in_ok-text.text; text = c.in_ok-committed.committed } in
+    let asked = c.sink_committed.ensures.leads in
+    let added = c.in_ok-sink_commit.ensures.committed (told_on (world c.args.estate.now) (world c.sink_committed.new.self) asked.time told)
+    ∙ ap (λ (l : List Commit). l ++ commit ∷ []) (asked.holding told).commits in
+    let none = sym (c.in_ok-sink_committed.ensures.found told) ∙ nothing_found c.in_ok-sink_committed.field-0 c.is_some.result c.is_some.ensures c.if-is_some.false in (
+      commit,
+      record {
+        is = is_commit_of (contents c.args.inputs.now) (contents c.file_count.new.inputs) keeps c.in_ok-text.text c.in_ok-text.ensures.text c.in_ok-job.job c.in_ok-job.ensures.job
+            c.in_ok-rows.rows c.in_ok-rows.ensures.rows c.in_ok-committed.committed c.in_ok-committed.ensures;
+        added = added;
+        once = once_under commit _ _ none added;
+      },
+      c.in_ok-line.ensures ∙ ap (λ (name : List ℕ). printed_line name Finished) c.as_slice.ensures,
+    )

@@ -1,0 +1,37 @@
+-- What a run leaves in the sink.
+use Rattle.std.specs.Prelude.{◌≡◌, ℕ, IsTrue, IfSome, List, [], ◌∷◌, ◌++◌, filter, Option, Some, None}
+use Rattle.std.specs.Str.{bytes_eq}
+use Rattle.estate.specs.Changes.{Same, Step, Leads}
+use Rattle.estate.specs.Contents.{Contents}
+use Rattle.estate.specs.Holding.{Holding}
+use Rattle.estate.specs.World.{World}
+use Rattle.estate.specs.declared.commit.Commit.{Commit}
+use Rattle.plan_model.specs.Plans.{committed_text}
+use Rattle.batch_main.specs.PlainForm.{IsPlainJob}
+use Rattle.batch_main.specs.PlainPlan.{plan_of}
+use Rattle.batch_main.specs.declared.plain_job.PlainJob.{PlainJob}
+
+-- The commit of the job that the inputs tell: under the job's name, with the job's text, and with the text that the
+-- definition gives for its plan over the tables' files.
+pub record IsCommitOf (inputs : Contents) (commit : Commit) : Type 0 where
+  pub plain_job : PlainJob
+  pub plain : IsPlainJob commit.job plain_job
+  pub id : commit.id ≡ plain_job.name
+  pub job : IsTrue inputs.told → commit.job ≡ inputs.job
+  pub text : IsTrue inputs.told → commit.text ≡ committed_text inputs.files (plan_of plain_job)
+
+-- the commits under an id
+abbrev pub commits_under : List ℕ → List Commit → List Commit
+commits_under id commits = filter (λ commit. bytes_eq commit.id id) commits
+
+-- The sink has all that was there before, and then this commit, which is the job's and the only one under its id.
+pub record HasCommitted (inputs : Contents) (commit : Commit) (old new : List Commit) : Type 0 where
+  pub is : IsCommitOf inputs commit
+  pub added : new ≡ old ++ commit ∷ []
+  pub once : commits_under commit.id new ≡ commit ∷ []
+
+-- Nothing was done to the estate but that the job's commit may have been added; and so says each crash since.
+pub record MayCommit (inputs : Contents) (old new : World) : Type 0 where
+  pub commit : Option Commit
+  pub is : IfSome commit (IsCommitOf inputs)
+  pub leads : Leads (Step Same None commit) old new

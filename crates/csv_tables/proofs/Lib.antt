@@ -1,0 +1,6 @@
+mod Cells
+mod Cuts
+mod Digits
+mod Records
+mod Rows
+mod Slices

@@ -1,0 +1,14 @@
+//! Tables as texts of comma-separated cells: reads a table's file as rows, and writes a sink's rows
+//! as sorted lines. docs/FORMATS.md states both formats.
+#![tactic(auto)]
+
+mod cell;
+mod line;
+mod lines;
+mod sink;
+mod table;
+#[cfg(test)]
+mod tests;
+
+pub use sink::sink_text;
+pub use table::read_table;
