@@ -1,19 +1,21 @@
 use crate::{GateFault, PartName};
 
-/// The fault of a gate that lets everyone in: there is none.
+/// The fault type of a gate that lets everyone in, which gives none.
 #[derive(Clone, Copy, Debug)]
-pub enum NoFault {}
+pub struct NoFault {
+    name: PartName,
+}
 
 impl GateFault for NoFault {
     ghost code_of = { λ _. 0 };
 
-    ghost name_of = { λ fault. record { vertex = 0; subtask = 0; epoch = 0; attempt = 0 } };
+    ghost name_of = { λ fault. fault.name };
 
     fn code(&self) -> u32 {
-        match *self {}
+        0
     }
 
     fn name(&self) -> PartName {
-        match *self {}
+        self.name
     }
 }

@@ -7,6 +7,8 @@ pub struct NoGate;
 impl Gate for NoGate {
     type Fault = NoFault;
 
+    ghost gives = { λ _ _ _. ⊥ };
+
     fn enter(&self, _name: PartName) -> Result<(), NoFault> {
         Ok(())
     }
