@@ -1,5 +1,5 @@
 -- Rows that are kept one after another.
-use Rattle.std.proofs.Common.{◌≡◌, ℕ, suc, ◌<◌, All, List, [], ◌∷◌, ◌++◌, length, sym, subst, ◌∙◌, ap, arith, append_assoc}
+use Rattle.std.proofs.Common.{◌≡◌, suc, All, List, [], ◌∷◌, ◌++◌, sym, subst, ◌∙◌, ap, arith, append_assoc}
 use Rattle.std.proofs.lemmas.List.Elements.{filter-append}
 use Rattle.row_core.specs.Exprs.{truth_of, is_yes}
 use Rattle.row_core.specs.declared.pred.Pred.{Pred}

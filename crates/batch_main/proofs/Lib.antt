@@ -1,7 +1,9 @@
+mod CauseLemmas
 mod Examples
 mod KeptRows
 mod Laws
 mod OneCommit
 mod Plans
+mod RunClauses
 mod Shapes
 mod TableRows

@@ -12,7 +12,7 @@ use Rattle.row_core.specs.declared.value.Value.{Value}
 use Rattle.plan_model.specs.Operators.{filtered}
 use Rattle.plan_model.specs.Sinks.{sorted_lines}
 use Rattle.plan_model.specs.Tables.{table_rows}
-use Rattle.batch_main.specs.Commits.{IsCommitOf, HasCommitted, commits_under}
+use Rattle.batch_main.specs.Commits.{IsCommitOf, commits_under}
 use Rattle.batch_main.specs.PlainForm.{IsPlainJob}
 use Rattle.batch_main.specs.PlainPlan.{pred_of}
 use Rattle.batch_main.proofs.Plans.{committed_text-plan_of}

@@ -1,9 +1,8 @@
 -- What a run leaves in the sink.
-use Rattle.std.specs.Prelude.{◌≡◌, ℕ, IsTrue, IfSome, List, [], ◌∷◌, ◌++◌, filter, Option, Some, None}
+use Rattle.std.specs.Prelude.{◌≡◌, ℕ, IsTrue, IfSome, List, [], ◌∷◌, ◌++◌, filter, Option, None}
 use Rattle.std.specs.Str.{bytes_eq}
 use Rattle.estate.specs.Changes.{Same, Step, Leads}
 use Rattle.estate.specs.Contents.{Contents}
-use Rattle.estate.specs.Holding.{Holding}
 use Rattle.estate.specs.World.{World}
 use Rattle.estate.specs.declared.commit.Commit.{Commit}
 use Rattle.plan_model.specs.Plans.{committed_text}

@@ -1,4 +1,5 @@
 pub mod Answers
+pub mod Causes
 pub mod Commits
 pub mod FolderWorld
 pub mod PlainForm

@@ -1,10 +1,8 @@
-ghost use Rattle.std.specs.Prelude.{◌≡◌, ◌∷◌, ◌++◌, length, codes, IsTrue, IfOk, OnOk, IsErrOf};
-ghost use Rattle.estate.specs.Changes.{Rose};
+ghost use Rattle.std.specs.Prelude.{◌≡◌, ◌∷◌, ◌++◌, length, codes, IsTrue, IfOk, IfErr, MatchResult};
 ghost use Rattle.estate.specs.Contents.{KeepsContents};
 ghost use Rattle.plan_model.specs.Sinks.{sorted_lines};
-ghost use Rattle.estate.specs.declared.commit.Commit.{Commit as OneCommit};
-ghost use Rattle.batch_main.specs.Answers.{printed_line};
-ghost use Rattle.batch_main.specs.Commits.{HasCommitted, MayCommit};
+ghost use Rattle.batch_main.specs.Causes.{HasFinished, WhyRefused, WhyUnread};
+ghost use Rattle.batch_main.specs.Commits.{MayCommit};
 
 use crate::lines::answer_line;
 use crate::plain_form::read_plain;
@@ -23,9 +21,9 @@ pub fn commit_job<E: Estate, I: Inputs>(
     estate: &mut E,
     inputs: &mut I,
 ) -> Result<Bytes, Refusal>
-    ensures committed { IfOk result (λ line. IsTrue (E.world estate.old).told → (commit : OneCommit)
-        × HasCommitted (I.contents inputs.old) commit (E.world estate.old).holding.commits (E.world estate.new).holding.commits
-        × (line ≡ printed_line commit.id Answer.Finished)) }
+    ensures why { MatchResult result
+        (λ line. HasFinished (I.contents inputs.old) (E.world estate.old) (E.world estate.new) line)
+        (λ refusal. WhyRefused (I.contents inputs.old) (I.contents inputs.new) (E.world estate.old) (E.world estate.new) refusal) }
     ensures keeps { KeepsContents (I.contents inputs.old) (I.contents inputs.new) }
     ensures adds { MayCommit (I.contents inputs.old) (E.world estate.old) (E.world estate.new) }
 {
@@ -48,7 +46,7 @@ pub fn commit_job<E: Estate, I: Inputs>(
 fn file_count<I: Inputs>(inputs: &mut I, table: &Bytes) -> Result<u32, Refusal>
     ensures keeps { KeepsContents (I.contents inputs.old) (I.contents inputs.new) }
     ensures count { IfOk result (λ files. IsTrue (I.contents inputs.old).told → length ((I.contents inputs.old).files table.now) ≡ files) }
-    ensures fault { IsErrOf result Refusal.InputFault → Rose (I.contents inputs.old).faults (I.contents inputs.new).faults }
+    ensures why { IfErr result (WhyUnread (I.contents inputs.old).faults (I.contents inputs.new).faults) }
 {
     let sizes = inputs.file_sizes(table)?;
     match u32::try_from(sizes.as_slice().len()) {

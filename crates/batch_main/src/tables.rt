@@ -1,10 +1,10 @@
-ghost use Rattle.std.specs.Prelude.{◌≡◌, ◌<◌, [], ◌∷◌, ◌++◌, length, map, slice_index_or, IsTrue, IfOk, OnOk, IsErrOf};
+ghost use Rattle.std.specs.Prelude.{◌≡◌, ◌<◌, [], ◌∷◌, ◌++◌, length, map, slice_index_or, IsTrue, IfOk, IfErr, OnOk};
 ghost use Rattle.std.specs.List.{flat_map};
-ghost use Rattle.estate.specs.Changes.{Rose};
 ghost use Rattle.estate.specs.Contents.{KeepsContents};
 ghost use Rattle.row_core.specs.Exprs.{pred_within};
 ghost use Rattle.plan_model.specs.Operators.{filtered};
 ghost use Rattle.plan_model.specs.Tables.{table_rows};
+ghost use Rattle.batch_main.specs.Causes.{WhyUnread};
 ghost use Rattle.batch_main.specs.PlainPlan.{pred_of};
 
 use crate::filtering::keep_rows;
@@ -29,7 +29,7 @@ pub fn job_rows<I: Inputs>(
     ensures rows { IfOk result (λ rows. IsTrue (I.contents inputs.old).told →
         rows ≡ filtered (pred_of job.now.comparison)
         (flat_map (table_rows (map (λ c. c.kind) job.now.columns)) ((I.contents inputs.old).files job.now.table))) }
-    ensures fault { IsErrOf result Refusal.InputFault → Rose (I.contents inputs.old).faults (I.contents inputs.new).faults }
+    ensures why { IfErr result (WhyUnread (I.contents inputs.old).faults (I.contents inputs.new).faults) }
 {
     let kinds = job.kinds(alloc)?;
     let test = job.comparison.pred();
@@ -49,7 +49,7 @@ fn kept_rows<I: Inputs>(
     ensures keeps { KeepsContents (I.contents inputs.old) (I.contents inputs.new) }
     ensures rows { IfOk result (λ rows. IsTrue (I.contents inputs.old).told →
         rows ≡ filtered test.now (flat_map (table_rows kinds.now) ((I.contents inputs.old).files table.now))) }
-    ensures fault { IsErrOf result Refusal.InputFault → Rose (I.contents inputs.old).faults (I.contents inputs.new).faults }
+    ensures why { IfErr result (WhyUnread (I.contents inputs.old).faults (I.contents inputs.new).faults) }
 {
     let mut kept = Rows::new(alloc);
     for file in 0..files {
@@ -72,7 +72,7 @@ fn keep_file<I: Inputs>(
     ensures keeps { KeepsContents (I.contents inputs.old) (I.contents inputs.new) }
     ensures rows { OnOk result (IsTrue (I.contents inputs.old).told →
         kept.new ≡ kept.old ++ filtered test.now (table_rows kinds.now (slice_index_or ((I.contents inputs.old).files table.now) file []))) }
-    ensures fault { IsErrOf result Refusal.InputFault → Rose (I.contents inputs.old).faults (I.contents inputs.new).faults }
+    ensures why { IfErr result (WhyUnread (I.contents inputs.old).faults (I.contents inputs.new).faults) }
 {
     let bytes = inputs.read_file(table, file)?;
     let rows = read_table(alloc, &bytes, kinds)?;
