@@ -1,7 +1,7 @@
 -- What a run leaves in the sink.
-use Rattle.std.specs.Prelude.{◌≡◌, ℕ, IsTrue, IfSome, List, [], ◌∷◌, ◌++◌, filter, Option, None}
+use Rattle.std.specs.Prelude.{◌≡◌, ◌⊎◌, ℕ, IsTrue, IfSome, List, [], ◌∷◌, ◌++◌, filter, Option, None}
 use Rattle.std.specs.Str.{bytes_eq}
-use Rattle.estate.specs.Changes.{Same, Step, Leads}
+use Rattle.estate.specs.Changes.{Rose, Same, Step, Stays, Leads}
 use Rattle.estate.specs.Contents.{Contents}
 use Rattle.estate.specs.World.{World}
 use Rattle.estate.specs.declared.commit.Commit.{Commit}
@@ -34,3 +34,7 @@ pub record MayCommit (inputs : Contents) (old new : World) : Type 0 where
   pub commit : Option Commit
   pub is : IfSome commit (IsCommitOf inputs)
   pub leads : Leads (Step Same None commit) old new
+
+-- The estate is as it was, unless the sink failed in this call.
+abbrev pub StaysUnlessFailed : World → World → Type 0
+StaysUnlessFailed old new = Rose old.counts.sink_faults new.counts.sink_faults ⊎ Leads Stays old new

@@ -1,8 +1,8 @@
-ghost use Rattle.std.specs.Prelude.{◌≡◌, ◌∷◌, ◌++◌, length, codes, IsTrue, IfOk, IfErr, MatchResult};
+ghost use Rattle.std.specs.Prelude.{◌≡◌, ◌∷◌, ◌++◌, length, codes, IsTrue, IfOk, IfErr, OnErr, MatchResult};
 ghost use Rattle.estate.specs.Contents.{KeepsContents};
 ghost use Rattle.plan_model.specs.Sinks.{sorted_lines};
 ghost use Rattle.batch_main.specs.Causes.{HasFinished, WhyRefused, WhyUnread};
-ghost use Rattle.batch_main.specs.Commits.{MayCommit};
+ghost use Rattle.batch_main.specs.Commits.{MayCommit, StaysUnlessFailed};
 
 use crate::lines::answer_line;
 use crate::plain_form::read_plain;
@@ -24,6 +24,7 @@ pub fn commit_job<E: Estate, I: Inputs>(
     ensures why { MatchResult result
         (λ line. HasFinished (I.contents inputs.old) (E.world estate.old) (E.world estate.new) line)
         (λ refusal. WhyRefused (I.contents inputs.old) (I.contents inputs.new) (E.world estate.old) (E.world estate.new) refusal) }
+    ensures stays { OnErr result (StaysUnlessFailed (E.world estate.old) (E.world estate.new)) }
     ensures keeps { KeepsContents (I.contents inputs.old) (I.contents inputs.new) }
     ensures adds { MayCommit (I.contents inputs.old) (E.world estate.old) (E.world estate.new) }
 {

@@ -1,11 +1,11 @@
-ghost use Rattle.std.specs.Prelude.{◌≡◌, ◌≢◌, ℕ, ◌++◌, [], ◌∷◌, map, string_bytes, IsTrue, IsNone, IsSome, IfOk, MatchOption, Contains};
+ghost use Rattle.std.specs.Prelude.{◌≡◌, ◌≢◌, ◌⊎◌, ℕ, ◌++◌, [], ◌∷◌, map, string_bytes, IsTrue, IsNone, IsSome, IfOk, MatchOption, MatchResult, Contains};
 ghost use Rattle.estate.specs.Changes.{Rose};
 ghost use Rattle.estate.specs.Holding.{job_under};
 ghost use Rattle.estate.specs.Printed.{AddsPart};
 ghost use Rattle.estate.specs.declared.commit.Commit.{Commit as OneCommit};
 ghost use Rattle.batch_main.specs.Answers.{status_of, printed_line, unprinted_answer};
 ghost use Rattle.batch_main.specs.Causes.{Cause, IsNoJob, IsPrintedAs, IsShown, Why};
-ghost use Rattle.batch_main.specs.Commits.{HasCommitted, MayCommit};
+ghost use Rattle.batch_main.specs.Commits.{HasCommitted, MayCommit, StaysUnlessFailed};
 ghost use Rattle.batch_main.specs.PlainForm.{IsPlainJob};
 ghost use Rattle.batch_main.specs.Words.{fault_of};
 ghost use Rattle.batch_main.specs.declared.plain_job.PlainJob.{PlainJob};
@@ -39,6 +39,9 @@ pub fn run<E: Estate, I: Inputs, P: Printer, C: Clock, G: Gate>(
 
     // Whatever it answers, and at each crash since the start, that commit may have been added, and nothing else.
     ensures adds { MayCommit (I.contents inputs.old) (E.world estate.old) (E.world estate.new) }
+
+    // Where it answers anything but Finished or a print fault, and the sink did not fail, the estate is as it was.
+    ensures stays { (result.answer ≡ Answer.Finished) ⊎ (result.answer ≡ Answer.PrintFault) ⊎ StaysUnlessFailed (E.world estate.old) (E.world estate.new) }
 
     // Usage exactly where the words are not the one command, with the first fault.
     ensures usage { MatchOption (fault_of (map string_bytes words.now))
@@ -84,6 +87,7 @@ fn answer<E: Estate, I: Inputs, P: Printer>(
     ensures cause { Cause (fault_of (map string_bytes words.now)) (I.contents inputs.old) (I.contents inputs.new) (E.world estate.old) (E.world estate.new)
         (P.printed printer.old) (P.printed printer.new) result }
     ensures adds { MayCommit (I.contents inputs.old) (E.world estate.old) (E.world estate.new) }
+    ensures stays { (result ≡ Answer.Finished) ⊎ (result ≡ Answer.PrintFault) ⊎ StaysUnlessFailed (E.world estate.old) (E.world estate.new) }
 {
     let Ok(no_memory) = answer_line(alloc, &[], Answer::NoMemory) else {
         return Answer::NoMemory;
@@ -103,6 +107,7 @@ fn reply_or<E: Estate, I: Inputs>(
     requires { no_memory ≡ printed_line [] Answer.NoMemory }
     ensures why { Why (fault_of (map string_bytes words.now)) (I.contents inputs.old) (I.contents inputs.new) (E.world estate.old) (E.world estate.new) result.answer result.line }
     ensures adds { MayCommit (I.contents inputs.old) (E.world estate.old) (E.world estate.new) }
+    ensures stays { (result.answer ≡ Answer.Finished) ⊎ StaysUnlessFailed (E.world estate.old) (E.world estate.new) }
 {
     match respond(alloc, words, estate, inputs) {
         Ok(reply) => reply,
@@ -142,6 +147,9 @@ fn respond<E: Estate, I: Inputs>(
     ensures why { IfOk result (λ reply.
         Why (fault_of (map string_bytes words.now)) (I.contents inputs.old) (I.contents inputs.new) (E.world estate.old) (E.world estate.new) reply.answer reply.line) }
     ensures adds { MayCommit (I.contents inputs.old) (E.world estate.old) (E.world estate.new) }
+    ensures stays { MatchResult result
+        (λ reply. (reply.answer ≡ Answer.Finished) ⊎ StaysUnlessFailed (E.world estate.old) (E.world estate.new))
+        (λ _. StaysUnlessFailed (E.world estate.old) (E.world estate.new)) }
 {
     match word_fault(words) {
         Some(fault) => refuse(
@@ -164,6 +172,9 @@ fn serve<E: Estate, I: Inputs>(
     ensures why { IfOk result (λ reply.
         Why None (I.contents inputs.old) (I.contents inputs.new) (E.world estate.old) (E.world estate.new) reply.answer reply.line) }
     ensures adds { MayCommit (I.contents inputs.old) (E.world estate.old) (E.world estate.new) }
+    ensures stays { MatchResult result
+        (λ reply. (reply.answer ≡ Answer.Finished) ⊎ StaysUnlessFailed (E.world estate.old) (E.world estate.new))
+        (λ _. StaysUnlessFailed (E.world estate.old) (E.world estate.new)) }
 {
     match commit_job(alloc, estate, inputs) {
         Ok(line) => Ok(Reply {

@@ -1,11 +1,16 @@
-use Rattle.std.proofs.Common.{rules, ◌≡◌, ℕ, Bool, false, Some, None, Option, List, ◌∷◌, ◌++◌, [], is_some, Result, Err, MatchResult, refl, sym, subst, ◌∙◌, ap}
-use Rattle.estate.specs.Changes.{Same}
+use Rattle.std.proofs.Common.{rules, ◌≡◌, ℕ, Bool, false, Some, None, Option, List, ◌∷◌, ◌++◌, [], is_some, Result, Err, MatchResult, refl, sym, subst, ◌∙◌, ap, inl, inr, OnErr}
+use Rattle.estate.specs.Changes.{Leads, Rose, Same, Stays}
+use Rattle.estate.specs.World.{World}
+use Rattle.estate.specs.declared.estate_error.EstateError.{EstateError}
+use Rattle.estate.specs.declared.estate_error.EstateError.TheVariants as estate
 use Rattle.estate.specs.declared.commit.Commit.{Commit}
 use Rattle.estate.proofs.ContentsKept.{keeps_contents_on}
-use Rattle.estate.proofs.Leading.{leads_after, told_on}
+use Rattle.estate.proofs.Leading.{leads_after, leads_stays, rose_later, told_on}
 use Rattle.batch_main.specs.Answers.{printed_line}
 use Rattle.batch_main.specs.declared.answer.Answer.TheVariants.{Finished}
 use Rattle.batch_main.specs.Causes.{WhyRefused}
+use Rattle.batch_main.specs.Commits.{StaysUnlessFailed}
+use Rattle.batch_main.specs.Refusals.{estate_refusal}
 use Rattle.batch_main.specs.PlainForm.{IsPlainJob}
 use Rattle.batch_main.specs.declared.refusal.Refusal.{Refusal}
 use Rattle.batch_main.proofs.OneCommit.{is_commit_of, once_under}
@@ -90,3 +95,20 @@ returns-clause-why g c =
             refl,
           );
     }
+
+-- a commit that was refused for want of memory changed nothing, and any other counted a fault
+unless_failed : {T : Type 0} (error : EstateError) (old new : World) (result : Result T Refusal) → result ≡ Err (estate_refusal error) → (error ≡ estate.Failed → Rose old.counts.sink_faults new.counts.sink_faults)
+    → (error ≡ estate.NoMemory → Leads Stays old new) → OnErr result (StaysUnlessFailed old new)
+unless_failed {T} estate.Failed old new result is failed memory = subst (λ (r : Result T Refusal). OnErr r (StaysUnlessFailed old new)) (sym is) (inl (failed refl))
+unless_failed {T} estate.NoMemory old new result is failed memory = subst (λ (r : Result T Refusal). OnErr r (StaysUnlessFailed old new)) (sym is) (inr (memory refl))
+
+pub returns-in_err-sink_commit-clause-stays : goal.returns-in_err-sink_commit-clause-stays
+returns-in_err-sink_commit-clause-stays g c =
+    let world = g.E.Estate.world in
+    let law = g.met.E.Estate.lawful in
+    let asked = c.sink_committed.ensures.leads in
+    unless_failed c.in_err-sink_commit.field-0.0 (world c.args.estate.now) (world c.sink_commit.new.self) c.from_residual-in_err-sink_commit.result (search rules)
+    (λ is. rose_later (world c.args.estate.now).counts.sink_faults (world c.sink_committed.new.self).counts.sink_faults (world c.sink_commit.new.self).counts.sink_faults (asked.time).counts.sink_faults
+    (c.sink_commit.ensures.cause (c.in_err-sink_commit.was ∙ ap Err is)))
+    (λ is. leads_stays (world c.args.estate.now) (world c.sink_committed.new.self) (world c.sink_commit.new.self) (law c.args.estate.now) (law c.sink_committed.new.self) (law c.sink_commit.new.self)
+    asked (c.sink_commit.ensures.memory (c.in_err-sink_commit.was ∙ ap Err is)))
