@@ -2,27 +2,36 @@ ghost use Rattle.std.specs.Prelude.{◌≡◌, ◌≤◌};
 ghost use Rattle.estate.specs.Changes.{Rose};
 ghost use Rattle.batch_main.specs.FolderWorld.{folder_world};
 
+use crate::volatile_log::VolatileLog;
+use crate::volatile_shelf::VolatileShelf;
 use estate::{Edges, Estate, EstateError, Names, PartName};
 use row_core::Bytes;
+use std::alloc::Global;
 use std::fs::{Files, OpenFile};
 use std::io::Write;
 use std::{fs, io};
 
 /// The estate of the present folder. A commit is a folder `estate/out/<id>/` with the job's text in
 /// `job.json` and the committed text in `rows.csv`, which is written aside, synced and renamed. The log
-/// and the shelf are not built yet: each call of theirs counts a fault. It tells nothing of what it holds.
+/// and the shelf are kept in memory, and end with the process. It tells nothing of what it holds.
 #[derive(Drop)]
 pub struct FolderEstate<'a, R> {
     rt: &'a R,
+    alloc: Global,
+    log: VolatileLog,
+    shelf: VolatileShelf,
     log_faults: u64,
     shelf_faults: u64,
     sink_faults: u64,
 }
 
-impl<'a, R> FolderEstate<'a, R> {
+impl<'a, R: AllocGlobal> FolderEstate<'a, R> {
     pub fn new(rt: &'a R) -> Self {
         FolderEstate {
             rt,
+            alloc: rt.alloc(),
+            log: VolatileLog::new(rt.alloc()),
+            shelf: VolatileShelf::new(rt.alloc()),
             log_faults: 0,
             shelf_faults: 0,
             sink_faults: 0,
@@ -58,36 +67,47 @@ impl<'a, R: Files + AllocGlobal> Estate for FolderEstate<'a, R> {
     ghost world = { λ estate. folder_world estate.log_faults estate.shelf_faults estate.sink_faults };
 
     fn log_len(&mut self) -> Result<u64, EstateError> {
-        Err(failed(&mut self.log_faults))
+        Ok(self.log.len())
     }
 
-    fn log_read(&mut self, _at: u64, _len: u64) -> Result<Bytes, EstateError> {
-        Err(failed(&mut self.log_faults))
+    fn log_read(&mut self, at: u64, len: u64) -> Result<Bytes, EstateError> {
+        match self.log.read(self.alloc, at, len)? {
+            Some(bytes) => Ok(bytes),
+            None => Err(failed(&mut self.log_faults)),
+        }
     }
 
-    fn log_write(&mut self, _at: u64, _bytes: &Bytes) -> Result<(), EstateError> {
-        Err(failed(&mut self.log_faults))
+    fn log_write(&mut self, at: u64, bytes: &Bytes) -> Result<(), EstateError> {
+        if self.log.write(at, bytes.as_slice())? {
+            Ok(())
+        } else {
+            Err(failed(&mut self.log_faults))
+        }
     }
 
     fn log_sync(&mut self) -> Result<(), EstateError> {
-        Err(failed(&mut self.log_faults))
+        Ok(())
     }
 
-    fn shelf_put(&mut self, _name: PartName, _edges: &Edges) -> Result<(), EstateError> {
-        Err(failed(&mut self.shelf_faults))
+    fn shelf_put(&mut self, name: PartName, edges: &Edges) -> Result<(), EstateError> {
+        if self.shelf.put(self.alloc, name, edges)? {
+            Ok(())
+        } else {
+            Err(failed(&mut self.shelf_faults))
+        }
     }
 
     fn shelf_cell(
         &mut self,
-        _name: PartName,
-        _edge: u32,
-        _cell: u32,
+        name: PartName,
+        edge: u32,
+        cell: u32,
     ) -> Result<Option<Bytes>, EstateError> {
-        Err(failed(&mut self.shelf_faults))
+        Ok(self.shelf.cell(self.alloc, name, edge, cell)?)
     }
 
     fn shelf_names(&mut self) -> Result<Names, EstateError> {
-        Err(failed(&mut self.shelf_faults))
+        Ok(self.shelf.names(self.alloc)?)
     }
 
     fn sink_commit(&mut self, id: &Bytes, job: &Bytes, text: &Bytes) -> Result<(), EstateError> {

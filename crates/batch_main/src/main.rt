@@ -22,6 +22,8 @@ mod tables;
 #[cfg(test)]
 mod tests;
 mod unbuilt;
+mod volatile_log;
+mod volatile_shelf;
 mod word_kind;
 mod words;
 

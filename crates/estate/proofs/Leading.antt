@@ -106,11 +106,11 @@ still_held None d e h is name has = has
 still_held (Some part) d e h is name (inl has) = inl has
 still_held (Some part) d e h is name (inr put) = inr (put.0, is ∙ put.1)
 
-may_stay : {A : Type 0} (x : Option A) (old new : List A) → new ≡ old → MayGain x old new
+pub may_stay : {A : Type 0} (x : Option A) (old new : List A) → new ≡ old → MayGain x old new
 may_stay None old new is = is
 may_stay (Some x) old new is = inl is
 
-held_stays : (part : Option StoredPart) (old new : Holding) (name : PartName) → Contains old.held name → WasHeld part old new name
+pub held_stays : (part : Option StoredPart) (old new : Holding) (name : PartName) → Contains old.held name → WasHeld part old new name
 held_stays None old new name has = has
 held_stays (Some part) old new name has = inl has
 

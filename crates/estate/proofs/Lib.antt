@@ -1,5 +1,10 @@
 pub mod ContentsKept
+pub mod Calling
 pub mod Keeping
 pub mod Leading
-pub mod Sinking
+pub mod Losing
+pub mod Ordered
+pub mod Recalling
+pub mod Shelving
+pub mod Stepping
 pub mod Torn

@@ -1,10 +1,13 @@
 pub mod Changes
 pub mod Contents
+pub mod Disk
 pub mod Holding
 pub mod Memory
 pub mod Parts
 pub mod PastLaws
 pub mod Pasts
+pub mod Places
 pub mod Printed
 pub mod Readings
+pub mod Shelf
 pub mod World

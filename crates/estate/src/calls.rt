@@ -1,11 +1,11 @@
-ghost use Rattle.std.specs.Prelude.{◌≡◌, ◌+◌, ◌≤◌, IfOk, IsTrue, false};
+ghost use Rattle.std.specs.Prelude.{◌≡◌, ◌↔◌, ◌+◌, ◌≤◌, ◌<◌, IfOk, IsTrue, true};
 
 use crate::Numbers;
 use row_core::NoMemory;
 use std::alloc::Global;
 
 /// After so many calls each further one fails, so that moments stay below 2^64.
-const MOST_CALLS: u64 = 1 << 62;
+const MOST_CALLS: u64 = 1 << 61;
 
 /// Counts the calls of an object in memory, and knows which of them fail.
 #[derive(Debug, Drop)]
@@ -13,7 +13,7 @@ pub struct Calls {
     /// How many there were. The first has the number 0.
     pub count: u64,
     failing: Vec<u64>,
-    ghost few: { count ≤ 4611686018427387904 },
+    ghost few: { count ≤ 2305843009213693952 },
 }
 
 impl Calls {
@@ -26,13 +26,18 @@ impl Calls {
         })
     }
 
+    pub fn is_full(&self) -> bool
+        ensures { IsTrue result ↔ (self.now.count ≡ 2305843009213693952) }
+    {
+        self.count == MOST_CALLS
+    }
+
     /// Counts a call, and says whether it is to fail.
     pub fn begin(&mut self) -> bool
-        ensures later { self.old.count ≤ self.new.count }
-        ensures counted { result ≡ false → self.new.count ≡ self.old.count + 1 }
-        ensures few { self.new.count ≤ 4611686018427387904 }
+        ensures counted { self.old.count < 2305843009213693952 → self.new.count ≡ self.old.count + 1 }
+        ensures full { self.old.count ≡ 2305843009213693952 → result ≡ true }
     {
-        if self.count >= MOST_CALLS {
+        if self.is_full() {
             return true;
         }
         let fails = self.failing.contains(&self.count);

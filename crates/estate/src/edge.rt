@@ -1,6 +1,7 @@
-ghost use Rattle.std.specs.Prelude.{◌≡◌};
+ghost use Rattle.std.specs.Prelude.{◌≡◌, [], ◌∷◌, ◌++◌, IfOk, OnOk, OnErr};
 
-use row_core::Bytes;
+use row_core::{Bytes, NoMemory};
+use std::alloc::Global;
 use std::marker::Model;
 
 /// The cells of one output edge of a part.
@@ -18,6 +19,14 @@ impl Model for Edge {
 }
 
 impl Edge {
+    pub fn new(alloc: Global) -> Self
+        ensures { result ≡ [] }
+    {
+        Edge {
+            items: Vec::new(alloc),
+        }
+    }
+
     pub fn from_vec(items: Vec<Bytes>) -> Self
         ensures { result ≡ items.items }
     {
@@ -34,5 +43,23 @@ impl Edge {
         ensures { result.now ≡ self.now }
     {
         self.items.as_slice()
+    }
+
+    pub fn push(&mut self, item: Bytes) -> Result<(), NoMemory>
+        ensures ok { OnOk result (self.new ≡ self.old ++ item ∷ []) }
+        ensures err { OnErr result (self.new ≡ self.old) }
+    {
+        self.items.push(item)?;
+        Ok(())
+    }
+
+    pub fn copy(&self, alloc: Global) -> Result<Edge, NoMemory>
+        ensures { IfOk result (λ made. made ≡ self.now) }
+    {
+        let mut made = Edge::new(alloc);
+        for item in self.items.as_slice() {
+            made.push(Bytes::from_slice(alloc, item.as_slice())?)?;
+        }
+        Ok(made)
     }
 }

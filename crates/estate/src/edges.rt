@@ -1,6 +1,8 @@
-ghost use Rattle.std.specs.Prelude.{◌≡◌};
+ghost use Rattle.std.specs.Prelude.{◌≡◌, [], ◌∷◌, ◌++◌, IfOk, OnOk, OnErr};
 
 use crate::Edge;
+use row_core::NoMemory;
+use std::alloc::Global;
 use std::marker::Model;
 
 /// The output edges of a part, each with its cells.
@@ -18,6 +20,14 @@ impl Model for Edges {
 }
 
 impl Edges {
+    pub fn new(alloc: Global) -> Self
+        ensures { result ≡ [] }
+    {
+        Edges {
+            items: Vec::new(alloc),
+        }
+    }
+
     pub fn from_vec(items: Vec<Edge>) -> Self
         ensures { result ≡ items.items }
     {
@@ -34,5 +44,23 @@ impl Edges {
         ensures { result.now ≡ self.now }
     {
         self.items.as_slice()
+    }
+
+    pub fn push(&mut self, item: Edge) -> Result<(), NoMemory>
+        ensures ok { OnOk result (self.new ≡ self.old ++ item ∷ []) }
+        ensures err { OnErr result (self.new ≡ self.old) }
+    {
+        self.items.push(item)?;
+        Ok(())
+    }
+
+    pub fn copy(&self, alloc: Global) -> Result<Edges, NoMemory>
+        ensures { IfOk result (λ made. made ≡ self.now) }
+    {
+        let mut made = Edges::new(alloc);
+        for item in self.items.as_slice() {
+            made.push(item.copy(alloc)?)?;
+        }
+        Ok(made)
     }
 }

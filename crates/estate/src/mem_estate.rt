@@ -1,30 +1,47 @@
-ghost use Rattle.std.specs.Prelude.{◌≡◌, ◌≤◌, ◌*◌, ◌+◌, All, map, IfOk};
+ghost use Rattle.std.specs.Prelude.{◌≡◌, ◌⊎◌, ◌+◌, ◌*◌, ◌<◌, ◌≤◌, [], ◌∷◌, ◌++◌, length, map, nat_le, if◌then◌else◌, All, Contains, vec_len, vec_capacity, IfOk, OnOk};
+ghost use Rattle.std.specs.List.{filter};
+ghost use Rattle.estate.specs.declared.part_name.PartName.{PartName as Name};
 ghost use Rattle.estate.specs.Holding.{job_under};
+ghost use Rattle.estate.specs.Changes.{Rose};
+ghost use Rattle.estate.specs.Shelf.{held_in, LosesFrom};
+ghost use Rattle.estate.specs.Pasts.{HasEnded, commits_in, commits_at};
 
 use crate::calls::Calls;
 use crate::committed::Committed;
+use crate::mem_log::MemLog;
+use crate::mem_shelf::MemShelf;
+use crate::shelved::Shelved;
 use crate::{Commit, Commits, Edges, Estate, EstateError, Loss, Losses, Names, Numbers, PartName};
 use row_core::{Bytes, NoMemory};
 use std::alloc::Global;
 
-/// An estate in memory. It keeps what it was at each moment, so that a crash may be tried at each.
+/// An estate in memory. It keeps what happened to it, so that a crash may be tried at each moment. Each
+/// call takes the time of its own work: the log is written in its place, a part is found by its name.
 #[derive(Debug, Drop)]
 pub struct MemEstate {
     alloc: Global,
     calls: Calls,
     losing: Vec<Loss>,
+    log: MemLog,
+    shelf: MemShelf,
     sink: Vec<Committed>,
+    // The moments at which `lose` dropped a part. It has room for all that are held.
+    drops: Vec<u64>,
     log_faults: u64,
     shelf_faults: u64,
     sink_faults: u64,
     losses: u64,
-    ghost ended: { All (λ entry. entry.since ≤ 2 * calls.count) sink.items },
+    ghost ended: { HasEnded (record { log = log.changes.items; shelf = shelf.parts.items; sink = sink.items }) (2 * calls.count + length drops.items) },
+    ghost room: { vec_len drops + length (held_in shelf.parts.items) ≤ vec_capacity drops },
 }
 
 impl MemEstate {
-    ghost use Rattle.std.specs.Prelude.{◌≡◌, ◌+◌, ◌++◌, ◌∷◌, [], true, None, Some, IfOk, OnOk, OnErr};
-    ghost use Rattle.estate.specs.Changes.{Leads, Stays, Step, Same, HasCause, Rose};
-    ghost use Rattle.estate.specs.Memory.{mem_world};
+    ghost use Rattle.std.specs.Prelude.{◌≡◌, ◌≢◌, ◌+◌, ◌<◌, ◌≤◌, ◌^◌, [], true, false, Contains, IfOk, OnOk, IsErrOf};
+    ghost use Rattle.estate.specs.declared.estate_error.EstateError.TheVariants.{NoMemory};
+    ghost use Rattle.estate.specs.declared.part_name.PartName.{PartName as Named};
+    ghost use Rattle.estate.specs.Changes.{Leads, Stays, HasCause, Rose};
+    ghost use Rattle.estate.specs.Pasts.{chosen};
+    ghost use Rattle.estate.specs.Memory.{mem_world, clock_of, moments_of, time_of, past_of, HasEntered};
 
     /// An empty estate. Its calls are counted from 0: one whose number is in `failing` fails, and at the
     /// start of one that is in `losing` the part of that name is lost, if it is held.
@@ -38,7 +55,10 @@ impl MemEstate {
             alloc,
             calls: Calls::new(alloc, failing)?,
             losing: losing.as_slice().to_vec(alloc)?,
+            log: MemLog::new(alloc),
+            shelf: MemShelf::new(alloc),
             sink: Vec::new(alloc),
+            drops: Vec::new(alloc),
             log_faults: 0,
             shelf_faults: 0,
             sink_faults: 0,
@@ -48,7 +68,7 @@ impl MemEstate {
 
     /// How many moments there are: the beginning, then for each call one within it and one at its exit.
     pub fn moments(&self) -> u64
-        ensures { result ≡ (mem_world self.now).now + 1 }
+        ensures { result ≡ moments_of self.now }
     {
         2 * self.calls.count + 1
     }
@@ -57,34 +77,155 @@ impl MemEstate {
     pub fn commits(&self) -> Result<Commits, NoMemory>
         ensures { IfOk result (λ commits. commits ≡ (mem_world self.now).holding.commits) }
     {
-        copy_commits(self.alloc, &self.sink)
+        let commits = copy_commits(self.alloc, &self.sink)?;
+        Ok(commits)
     }
 
-    // A call on the log.
-    fn refuse_log(&mut self) -> EstateError
+    /// Drops the part of this name from what is held. Takes no memory, and no moment of its own: after it,
+    /// a crash at the present moment leaves the part no longer.
+    pub fn lose(&mut self, name: PartName)
         ensures leads { Leads Stays (mem_world self.old) (mem_world self.new) }
-        ensures cause { Rose self.old.log_faults self.new.log_faults }
-        ensures failed { result ≡ EstateError.Failed }
+        ensures gone { ¬ (Contains (mem_world self.new).holding.held name) }
+        ensures others { (other : Named) → other ≢ name → Contains (mem_world self.old).holding.held other → Contains (mem_world self.new).holding.held other }
+        ensures rose { Contains (mem_world self.old).holding.held name → Rose (mem_world self.old).counts.losses (mem_world self.new).counts.losses }
+        ensures moments { moments_of self.new ≡ moments_of self.old }
     {
-        self.calls.begin();
-        self.log_faults = self.log_faults.saturating_add(1);
-        EstateError::Failed
+        let since = self.clock() + 1;
+        if self.shelf.lose(name, since) {
+            self.losses = self.losses.saturating_add(1);
+            push_within(&mut self.drops, 2 * self.calls.count);
+        }
     }
 
-    // A call on the shelf.
-    fn refuse_shelf(&mut self) -> EstateError
-        ensures leads { Leads Stays (mem_world self.old) (mem_world self.new) }
-        ensures cause { Rose self.old.shelf_faults self.new.shelf_faults }
-        ensures failed { result ≡ EstateError.Failed }
+    /// What a crash at a moment leaves: of the writes since the last sync none (choice 0), all (1), as many
+    /// bytes 255 (2), or all but the second half of the last (3). All that was held then is held, and what
+    /// was under way is not there, but for a write, which is one since the last sync. The estate that it
+    /// leaves begins with its first moment; no call of it is to fail or to lose.
+    pub fn crash(&self, moment: u64, choice: u32) -> Result<MemEstate, NoMemory>
+        requires moment { moment < moments_of self.now }
+        requires choice { choice ≤ 3 }
+        ensures image { IfOk result (λ made. (mem_world self.now).images (time_of self.now moment) (mem_world made).holding) }
+        ensures chosen { IfOk result (λ made. (mem_world made).holding ≡ chosen choice (past_of self.now moment)) }
+        ensures first { IfOk result (λ made. (mem_world made).now ≡ 0) }
+        ensures counts { IfOk result (λ made. (mem_world made).counts ≡ record { log_faults = 0; shelf_faults = 0; sink_faults = 0; losses = 0 }) }
     {
-        self.calls.begin();
-        self.shelf_faults = self.shelf_faults.saturating_add(1);
-        EstateError::Failed
+        let time = self.time(moment);
+        let shelf = self.shelf.crash(self.alloc, time)?;
+        let mut drops = Vec::new(self.alloc);
+        drops.reserve(shelf.parts.as_slice().len())?;
+        Ok(MemEstate {
+            alloc: self.alloc,
+            calls: Calls::new(self.alloc, &Numbers::from_vec(Vec::new(self.alloc)))?,
+            losing: Vec::new(self.alloc),
+            log: self.log.crash(self.alloc, time, choice)?,
+            shelf,
+            sink: sink_at(self.alloc, &self.sink, time)?,
+            drops,
+            log_faults: 0,
+            shelf_faults: 0,
+            sink_faults: 0,
+            losses: 0,
+        })
+    }
+
+    fn clock(&self) -> u64
+        ensures clock { result ≡ clock_of self.now }
+        ensures small { result + 3 < 2 ^ 64 }
+    {
+        2 * self.calls.count + self.drops.as_slice().len() as u64
+    }
+
+    fn time(&self, moment: u64) -> u64
+        requires { moment < moments_of self.now }
+        ensures time { result ≡ time_of self.now moment }
+        ensures past { result ≤ clock_of self.now }
+    {
+        moment + self.drops.iter().filter(|drop| **drop <= moment).count() as u64
+    }
+
+    // Counts a call, drops what is to be lost at its start, and says whether it is to fail.
+    fn begin(&mut self) -> bool
+        ensures leads { Leads Stays (mem_world self.old) (mem_world self.new) }
+        ensures entered { result ≡ false → HasEntered self.old self.new }
+    {
+        if self.calls.is_full() {
+            return true;
+        }
+        let within = self.clock() + 1;
+        lose_due(
+            &self.losing,
+            self.calls.count,
+            within,
+            &mut self.shelf,
+            &mut self.losses,
+        );
+        self.calls.begin()
+    }
+
+    fn enter_log(&mut self) -> Result<(), EstateError>
+        ensures leads { Leads Stays (mem_world self.old) (mem_world self.new) }
+        ensures entered { OnOk result (HasEntered self.old self.new) }
+        ensures cause { HasCause self.old.log_faults self.new.log_faults result }
+        ensures failed { IsErrOf result NoMemory → ⊥ }
+    {
+        if self.begin() {
+            self.log_faults = self.log_faults.saturating_add(1);
+            return Err(EstateError::Failed);
+        }
+        Ok(())
+    }
+
+    fn enter_shelf(&mut self) -> Result<(), EstateError>
+        ensures leads { Leads Stays (mem_world self.old) (mem_world self.new) }
+        ensures entered { OnOk result (HasEntered self.old self.new) }
+        ensures cause { HasCause self.old.shelf_faults self.new.shelf_faults result }
+    {
+        if self.begin() {
+            self.shelf_faults = self.shelf_faults.saturating_add(1);
+            return Err(EstateError::Failed);
+        }
+        Ok(())
+    }
+
+    fn enter_sink(&mut self) -> Result<(), EstateError>
+        ensures leads { Leads Stays (mem_world self.old) (mem_world self.new) }
+        ensures entered { OnOk result (HasEntered self.old self.new) }
+        ensures cause { HasCause self.old.sink_faults self.new.sink_faults result }
+    {
+        if self.begin() {
+            self.sink_faults = self.sink_faults.saturating_add(1);
+            return Err(EstateError::Failed);
+        }
+        Ok(())
+    }
+}
+
+// Drops the parts that are to be lost at a call.
+fn lose_due(losing: &[Loss], call: u64, since: u64, shelf: &mut MemShelf, losses: &mut u64)
+    ensures loses { LosesFrom since shelf.old.parts.items shelf.new.parts.items }
+    ensures later { losses.old ≤ losses.new }
+    ensures lost { (name : Name) → Contains (held_in shelf.old.parts.items) name → Contains (held_in shelf.new.parts.items) name ⊎ Rose losses.old losses.new }
+{
+    for loss in losing {
+        lose_if_due(loss, call, since, shelf, losses);
+    }
+}
+
+fn lose_if_due(loss: &Loss, call: u64, since: u64, shelf: &mut MemShelf, losses: &mut u64)
+    ensures loses { LosesFrom since shelf.old.parts.items shelf.new.parts.items }
+    ensures later { losses.old ≤ losses.new }
+    ensures lost { (name : Name) → Contains (held_in shelf.old.parts.items) name → Contains (held_in shelf.new.parts.items) name ⊎ Rose losses.old losses.new }
+{
+    if loss.call != call {
+        return;
+    }
+    if shelf.lose(loss.name, since) {
+        *losses = losses.saturating_add(1);
     }
 }
 
 fn copy_commits(alloc: Global, sink: &[Committed]) -> Result<Commits, NoMemory>
-    ensures { IfOk result (λ commits. commits ≡ map (λ entry. entry.commit) sink.now) }
+    ensures { IfOk result (λ commits. commits ≡ commits_in sink.now) }
 {
     let mut commits = Commits::new(alloc);
     for entry in sink {
@@ -93,9 +234,38 @@ fn copy_commits(alloc: Global, sink: &[Committed]) -> Result<Commits, NoMemory>
     Ok(commits)
 }
 
+// The commits that stood at a moment, as they stand since the beginning.
+fn sink_at(alloc: Global, sink: &[Committed], moment: u64) -> Result<Vec<Committed>, NoMemory>
+    ensures commits { IfOk result (λ made. commits_in made.items ≡ commits_at moment sink.now) }
+    ensures first { IfOk result (λ made. All (λ entry. entry.since ≡ 0) made.items) }
+{
+    let mut made = Vec::new(alloc);
+    for entry in sink {
+        recall(alloc, &mut made, entry, moment)?;
+    }
+    Ok(made)
+}
+
+// Adds a commit if it stood at a moment.
+fn recall(
+    alloc: Global,
+    made: &mut Vec<Committed>,
+    entry: &Committed,
+    moment: u64,
+) -> Result<(), NoMemory>
+    ensures { OnOk result (made.new.items ≡ made.old.items ++ (if nat_le entry.now.since moment then (record { since = 0; commit = entry.now.commit }) ∷ [] else [])) }
+{
+    if entry.since > moment {
+        return Ok(());
+    }
+    let commit = entry.commit.copy(alloc)?;
+    made.push(Committed { since: 0, commit })?;
+    Ok(())
+}
+
 // The job's text of the first commit of this id.
 fn find_job(alloc: Global, sink: &[Committed], id: &Bytes) -> Result<Option<Bytes>, NoMemory>
-    ensures { IfOk result (λ found. found ≡ job_under id.now (map (λ entry. entry.commit) sink.now)) }
+    ensures { IfOk result (λ found. found ≡ job_under id.now (commits_in sink.now)) }
 {
     for entry in sink {
         if entry.commit.id.equals(id) {
@@ -105,50 +275,80 @@ fn find_job(alloc: Global, sink: &[Committed], id: &Bytes) -> Result<Option<Byte
     Ok(None)
 }
 
+// Takes no memory, since there is room.
+fn push_within(drops: &mut Vec<u64>, moment: u64)
+    requires { vec_len drops.old < vec_capacity drops.old }
+    ensures items { drops.new.items ≡ drops.old.items ++ moment ∷ [] }
+    ensures len { vec_len drops.new ≡ vec_len drops.old + 1 }
+    ensures capacity { vec_capacity drops.old ≤ vec_capacity drops.new }
+{
+    match drops.push(moment) {
+        Ok(()) => (),
+        Err(_) => unreachable!(),
+    }
+}
+
 impl Estate for MemEstate {
-    ghost use Rattle.estate.specs.Memory.{mem_world};
-    ghost use Rattle.estate.specs.PastLaws.{mem_lawful};
+    ghost use Rattle.estate.specs.Memory.{mem_world, history_of, clock_of, counts_of};
+    ghost use Rattle.estate.specs.PastLaws.{past_lawful};
 
     ghost world = { mem_world };
 
     fn log_len(&mut self) -> Result<u64, EstateError> {
-        Err(self.refuse_log())
+        self.enter_log()?;
+        Ok(self.log.len())
     }
 
-    fn log_read(&mut self, _at: u64, _len: u64) -> Result<Bytes, EstateError> {
-        Err(self.refuse_log())
+    fn log_read(&mut self, at: u64, len: u64) -> Result<Bytes, EstateError> {
+        self.enter_log()?;
+        Ok(self.log.read(self.alloc, at, len)?)
     }
 
-    fn log_write(&mut self, _at: u64, _bytes: &Bytes) -> Result<(), EstateError> {
-        Err(self.refuse_log())
+    fn log_write(&mut self, at: u64, bytes: &Bytes) -> Result<(), EstateError> {
+        self.enter_log()?;
+        let within = self.clock() - 1;
+        self.log.write(self.alloc, at, bytes, within)?;
+        Ok(())
     }
 
     fn log_sync(&mut self) -> Result<(), EstateError> {
-        Err(self.refuse_log())
+        self.enter_log()?;
+        let exit = self.clock();
+        self.log.sync(exit);
+        Ok(())
     }
 
-    fn shelf_put(&mut self, _name: PartName, _edges: &Edges) -> Result<(), EstateError> {
-        Err(self.refuse_shelf())
+    fn shelf_put(&mut self, name: PartName, edges: &Edges) -> Result<(), EstateError> {
+        self.enter_shelf()?;
+        let exit = self.clock();
+        self.drops.reserve(self.shelf.parts.as_slice().len() + 1)?;
+        let edges = edges.copy(self.alloc)?;
+        self.shelf.add(Shelved {
+            since: exit,
+            name,
+            edges,
+            lost: None,
+        })?;
+        Ok(())
     }
 
     fn shelf_cell(
         &mut self,
-        _name: PartName,
-        _edge: u32,
-        _cell: u32,
+        name: PartName,
+        edge: u32,
+        cell: u32,
     ) -> Result<Option<Bytes>, EstateError> {
-        Err(self.refuse_shelf())
+        self.enter_shelf()?;
+        Ok(self.shelf.cell(self.alloc, name, edge, cell)?)
     }
 
     fn shelf_names(&mut self) -> Result<Names, EstateError> {
-        Err(self.refuse_shelf())
+        self.enter_shelf()?;
+        Ok(self.shelf.names(self.alloc)?)
     }
 
     fn sink_commit(&mut self, id: &Bytes, job: &Bytes, text: &Bytes) -> Result<(), EstateError> {
-        if self.calls.begin() {
-            self.sink_faults = self.sink_faults.saturating_add(1);
-            return Err(EstateError::Failed);
-        }
+        self.enter_sink()?;
         let commit = Commit::from_slices(
             self.alloc,
             id.as_slice(),
@@ -156,7 +356,7 @@ impl Estate for MemEstate {
             text.as_slice(),
         )?;
         let entry = Committed {
-            since: 2 * self.calls.count,
+            since: self.clock(),
             commit,
         };
         self.sink.push(entry)?;
@@ -164,12 +364,9 @@ impl Estate for MemEstate {
     }
 
     fn sink_committed(&mut self, id: &Bytes) -> Result<Option<Bytes>, EstateError> {
-        if self.calls.begin() {
-            self.sink_faults = self.sink_faults.saturating_add(1);
-            return Err(EstateError::Failed);
-        }
+        self.enter_sink()?;
         Ok(find_job(self.alloc, &self.sink, id)?)
     }
 
-    ghost lawful = { λ estate. mem_lawful estate };
+    ghost lawful = { λ estate. past_lawful (history_of estate) (clock_of estate) (counts_of estate) estate.shelf.distinct };
 }

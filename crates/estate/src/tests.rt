@@ -1,3 +1,5 @@
+ghost use Rattle.std.specs.Prelude.{◌≡◌};
+
 use crate::*;
 use row_core::Bytes;
 use std::alloc::Global;
@@ -96,14 +98,17 @@ fn committed<E: Estate>(estate: &mut E, id: &Bytes) -> Result<Option<Bytes>, Est
     estate.sink_committed(id)
 }
 
+fn no_losses(alloc: Global) -> Losses {
+    Losses::from_vec(Vec::new(alloc))
+}
+
 #[test]
 fn sink_keeps_commits_in_order(rt: HostRuntime) -> Result<(), Fail> {
     let alloc = rt.alloc();
     let id = Bytes::from_slice(alloc, b"id")?;
     let first = Bytes::from_slice(alloc, b"first")?;
     let second = Bytes::from_slice(alloc, b"second")?;
-    let losing = Losses::from_vec(vec![in alloc]?);
-    let mut estate = MemEstate::new(alloc, &numbers(alloc, &[1])?, &losing)?;
+    let mut estate = MemEstate::new(alloc, &numbers(alloc, &[1])?, &no_losses(alloc))?;
     estate.sink_commit(&id, &first, &first)?;
     assert!(rt; estate.sink_commit(&id, &first, &first) == Err(EstateError::Failed));
     estate.sink_commit(&id, &second, &second)?;
@@ -113,5 +118,134 @@ fn sink_keeps_commits_in_order(rt: HostRuntime) -> Result<(), Fail> {
     assert_eq!(rt; commits.as_slice().len(), 2);
     assert!(rt; commits.as_slice()[1].text.equals(&second));
     assert_eq!(rt; estate.moments(), 11);
+    for (moment, want) in [(0, 0), (1, 0), (2, 1), (4, 1), (5, 1), (6, 2), (10, 2)] {
+        let crashed = estate.crash(moment, 0)?.commits()?;
+        assert_eq!(rt; crashed.as_slice().len(), want, "at {moment}");
+    }
+    Ok(())
+}
+
+// Two calls: the length, and a write where it is no further than that.
+fn writes<E: Estate>(estate: &mut E, at: u64, bytes: &Bytes) -> Result<(), EstateError> {
+    let len = estate.log_len()?;
+    if at > len {
+        return Err(EstateError::Failed);
+    }
+    estate.log_write(at, bytes)
+}
+
+fn whole_log<E: Estate>(estate: &mut E) -> Result<Bytes, EstateError> {
+    let len = estate.log_len()?;
+    estate.log_read(0, len)
+}
+
+// What a crash leaves of "ab", synced, then "cdef" behind it and "xyz" over it, synced.
+fn log_left(moment: u64, choice: u32) -> &'static [u8] {
+    match (moment, choice) {
+        (0..=2, _) | (3..=5, 0) => b"".as_slice(),
+        (3..=5, 1) => b"ab".as_slice(),
+        (3..=5, 2) => b"\xff\xff".as_slice(),
+        (3..=5, _) => b"a".as_slice(),
+        (6..=8, _) | (9..=15, 0) => b"ab".as_slice(),
+        (9..=12, 1) => b"abcdef".as_slice(),
+        (9..=12, 2) => b"ab\xff\xff\xff\xff".as_slice(),
+        (9..=12, _) => b"abcd".as_slice(),
+        (13..=15, 2) => b"a\xff\xff\xff\xff\xff".as_slice(),
+        (13..=15, 3) => b"axcdef".as_slice(),
+        _ => b"axyzef".as_slice(),
+    }
+}
+
+#[test]
+fn log_crashes_at_each_moment(rt: HostRuntime) -> Result<(), Fail> {
+    let alloc = rt.alloc();
+    let mut estate = MemEstate::new(alloc, &numbers(alloc, &[])?, &no_losses(alloc))?;
+    writes(&mut estate, 0, &Bytes::from_slice(alloc, b"ab")?)?;
+    estate.log_sync()?;
+    writes(&mut estate, 2, &Bytes::from_slice(alloc, b"cdef")?)?;
+    writes(&mut estate, 1, &Bytes::from_slice(alloc, b"xyz")?)?;
+    estate.log_sync()?;
+    assert_eq!(rt; estate.moments(), 17);
+    for moment in 0..17 {
+        for choice in 0..4 {
+            let mut left = estate.crash(moment, choice)?;
+            assert_eq!(rt; left.moments(), 1);
+            let log = whole_log(&mut left)?;
+            assert!(rt;
+                log.as_slice() == log_left(moment, choice),
+                "at {moment} by {choice}"
+            );
+        }
+    }
+    Ok(())
+}
+
+fn name(vertex: u32) -> PartName
+    ensures { result ≡ record { vertex = vertex; subtask = 0; epoch = 0; attempt = 0 } }
+{
+    PartName {
+        vertex,
+        subtask: 0,
+        epoch: 0,
+        attempt: 0,
+    }
+}
+
+// Parts 2 and 1, in this order, of one edge with the cells "x" and "y".
+fn two_parts(alloc: Global, failing: &Numbers, losing: &Losses) -> Result<MemEstate, EstateError> {
+    let mut edge = Edge::new(alloc);
+    edge.push(Bytes::from_slice(alloc, b"x")?)?;
+    edge.push(Bytes::from_slice(alloc, b"y")?)?;
+    let mut edges = Edges::new(alloc);
+    edges.push(edge)?;
+    let mut estate = MemEstate::new(alloc, failing, losing)?;
+    estate.shelf_put(name(2), &edges)?;
+    estate.shelf_put(name(1), &edges)?;
+    Ok(estate)
+}
+
+// How many parts are held, and the vertex of the first.
+fn held<E: Estate>(estate: &mut E) -> Result<(usize, u32), EstateError> {
+    let names = estate.shelf_names()?;
+    let names = names.as_slice();
+    match names.first() {
+        Some(first) => Ok((names.len(), first.vertex)),
+        None => Ok((0, 0)),
+    }
+}
+
+#[test]
+fn shelf_loses_parts(rt: HostRuntime) -> Result<(), Fail> {
+    let alloc = rt.alloc();
+    let losing = Losses::from_vec(vec![in alloc;
+        Loss {
+            call: 5,
+            name: name(1)
+        },
+    ]?);
+    let mut estate = two_parts(alloc, &numbers(alloc, &[2])?, &losing)?;
+    assert!(rt; held(&mut estate) == Err(EstateError::Failed));
+    assert_eq!(rt; held(&mut estate)?, (2, 1));
+    let cell = estate.shelf_cell(name(1), 0, 1)?;
+    assert!(rt; matches!(&cell, Some(bytes) if bytes.as_slice() == b"y".as_slice()));
+    assert!(rt; estate.shelf_cell(name(1), 0, 0)?.is_none());
+    let lacking = estate.shelf_cell(name(2), 0, 2)?;
+    assert!(rt; matches!(&lacking, Some(bytes) if bytes.is_empty()));
+    assert_eq!(rt; estate.moments(), 15);
+    estate.lose(name(2));
+    assert_eq!(rt; estate.moments(), 15);
+    for (moment, want) in [
+        (1, (0, 0)),
+        (2, (1, 2)),
+        (3, (1, 2)),
+        (4, (2, 1)),
+        (10, (2, 1)),
+        (11, (1, 2)),
+        (13, (1, 2)),
+        (14, (0, 0)),
+    ] {
+        assert_eq!(rt; held(&mut estate.crash(moment, 1)?)?, want, "at {moment}");
+    }
+    assert_eq!(rt; held(&mut estate)?, (0, 0));
     Ok(())
 }

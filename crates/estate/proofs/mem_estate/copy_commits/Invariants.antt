@@ -1,5 +1,5 @@
 use Rattle.std.proofs.Common.{◌≡◌, take}
-use Rattle.estate.specs.Memory.{commits_in}
+use Rattle.estate.specs.Pasts.{commits_in}
 use Rattle.estate.proofs.mem_estate.copy_commits.Given as goal
 
 abbrev pub invariant-loop-entry : goal.invariant-loop-entry

@@ -1,38 +1,45 @@
-use Rattle.std.proofs.Common.{◌≡◌, ◌+◌, ◌*◌, [], ◌∷◌, ◌++◌, Some, None, refl, ◌∙◌, ap, arith}
+use Rattle.std.proofs.Common.{◌≡◌, List, [], ◌∷◌, ◌++◌, Some, None, refl, ◌∙◌, ap, arith}
+use Rattle.estate.specs.declared.committed.Committed.{Committed}
 use Rattle.estate.specs.declared.commit.Commit.{Commit}
 use Rattle.estate.specs.Changes.{Same}
-use Rattle.estate.proofs.Sinking.{quiet, appends}
-use Rattle.estate.proofs.Keeping.{counted_refl}
+use Rattle.estate.specs.Memory.{mem_world, history_of, clock_of, counts_of}
 use Rattle.estate.proofs.Leading.{leads_more}
+use Rattle.estate.proofs.Stepping.{log_same, sink_gains, shelf_stays}
+use Rattle.estate.proofs.Calling.{call_leads, leads_same}
 use Rattle.estate.proofs.mem_estate.MemEstateEstate.sink_commit.Goals as goal
 
-pub returns-then-begin-clause-leads : goal.returns-then-begin-clause-leads
-returns-then-begin-clause-leads c =
-    leads_more Same None (Some (record { id = c.args.id.now; job = c.args.job.now; text = c.args.text.now })) _ _ (λ log. refl)
-    (quiet c.args.self.now.sink.items _ _ _ _ _ refl c.args.self.now.ended (omega arith)
-    (record { log_faults = omega arith; shelf_faults = omega arith; sink_faults = omega arith; losses = omega arith }))
+pub returns-in_err-enter_sink-clause-leads : goal.returns-in_err-enter_sink-clause-leads
+returns-in_err-enter_sink-clause-leads c = leads_more Same None (Some (record { id = c.args.id.now; job = c.args.job.now; text = c.args.text.now })) _ _ (λ log. refl) c.enter_sink.ensures.leads
 
 pub returns-in_err-commit-clause-leads : goal.returns-in_err-commit-clause-leads
-returns-in_err-commit-clause-leads c =
-    leads_more Same None (Some (record { id = c.args.id.now; job = c.args.job.now; text = c.args.text.now })) _ _ (λ log. refl)
-    (quiet c.args.self.now.sink.items _ _ _ _ _ refl c.args.self.now.ended (omega arith) (counted_refl _))
-
-pub returns-in_err-commit-clause-memory : goal.returns-in_err-commit-clause-memory
-returns-in_err-commit-clause-memory c = λ is. quiet c.args.self.now.sink.items _ _ _ _ _ refl c.args.self.now.ended (omega arith) (counted_refl _)
+returns-in_err-commit-clause-leads c = leads_more Same None (Some (record { id = c.args.id.now; job = c.args.job.now; text = c.args.text.now })) _ _ (λ log. refl) c.enter_sink.ensures.leads
 
 pub returns-in_err-push-clause-leads : goal.returns-in_err-push-clause-leads
 returns-in_err-push-clause-leads c =
+    let mid = c.enter_sink.new.self in
     leads_more Same None (Some (record { id = c.args.id.now; job = c.args.job.now; text = c.args.text.now })) _ _ (λ log. refl)
-    (quiet c.args.self.now.sink.items _ _ _ _ _ c.in_err-push.ensures.items c.args.self.now.ended (omega arith) (counted_refl _))
+    (leads_same (mem_world c.args.self.now) (history_of mid) (record { log = mid.log.changes.items; shelf = mid.shelf.parts.items; sink = c.push.new.self.items }) (clock_of mid) (clock_of mid) (counts_of mid)
+    refl refl c.in_err-push.ensures.items refl c.enter_sink.ensures.leads)
 
 pub returns-in_err-push-clause-memory : goal.returns-in_err-push-clause-memory
-returns-in_err-push-clause-memory c = λ is. quiet c.args.self.now.sink.items _ _ _ _ _ c.in_err-push.ensures.items c.args.self.now.ended (omega arith) (counted_refl _)
+returns-in_err-push-clause-memory c = λ is.
+    let mid = c.enter_sink.new.self in
+    leads_same (mem_world c.args.self.now) (history_of mid) (record { log = mid.log.changes.items; shelf = mid.shelf.parts.items; sink = c.push.new.self.items }) (clock_of mid) (clock_of mid) (counts_of mid)
+    refl refl c.in_err-push.ensures.items refl c.enter_sink.ensures.leads
 
 pub returns-clause-leads : goal.returns-clause-leads
 returns-clause-leads c =
-    let m = c.args.self.now in
+    let old = c.args.self.now in
+    let mid = c.enter_sink.new.self in
+    let e = c.in_ok-enter_sink.ensures.entered in
     let given : Commit = record { id = c.args.id.now; job = c.args.job.now; text = c.args.text.now } in
     let same : c.in_ok-commit.commit ≡ given = grind arith in
-    let clock : 2 * c.begin.new.self.count ≡ 2 * m.calls.count + 2 = omega (arith, c.begin.ensures.counted c.if-begin.false) in
-    appends m.sink.items c.push.new.self.items given (2 * m.calls.count) (2 * c.begin.new.self.count) _ m.ended (omega arith)
-    (c.in_ok-push.ensures.items ∙ ap (λ (x : Commit). m.sink.items ++ (record { since = 2 * c.begin.new.self.count; commit = x }) ∷ []) same)
+    let since = c.clock.result in
+    let at_exit : since ≡ clock_of mid = c.clock.ensures.clock in
+    let is = c.in_ok-push.ensures.items ∙ ap (λ (x : Commit). mid.sink.items ++ (record { since = since; commit = x }) ∷ []) same ∙ ap (λ (l : List Committed). l ++ (record { since = since; commit = given }) ∷ []) e.enters.sink in
+    call_leads {writes = Same} {part = None} {commit = Some given} (history_of old) (history_of mid)
+    (record { log = mid.log.changes.items; shelf = mid.shelf.parts.items; sink = c.push.new.self.items }) (clock_of old) (clock_of mid) (counts_of old) (counts_of mid) old.ended mid.ended.shelf (omega (arith, e.clock)) e.enters
+    (log_same (clock_of old) old.log.changes.items mid.log.changes.items e.enters.log (λ log. refl) old.ended.log)
+    (shelf_stays (clock_of old) old.shelf.parts.items mid.shelf.parts.items old.ended.shelf e.enters.shelf)
+    (sink_gains (clock_of old) since old.sink.items c.push.new.self.items given old.ended.sink (omega (arith, e.clock, at_exit)) is)
+    (λ name has. has)

@@ -1,15 +1,16 @@
-use Rattle.std.proofs.Common.{refl, arith}
-use Rattle.estate.proofs.Sinking.{quiet}
-use Rattle.estate.proofs.Keeping.{counted_refl}
+use Rattle.std.proofs.Common.{List, ◌∙◌, ap}
+use Rattle.estate.specs.declared.committed.Committed.{Committed}
+use Rattle.estate.specs.declared.commit.Commit.{Commit}
+use Rattle.estate.specs.Holding.{job_under}
+use Rattle.estate.specs.Pasts.{commits_in}
+use Rattle.estate.specs.Memory.{history_of, clock_of}
+use Rattle.estate.proofs.Calling.{commits_kept}
 use Rattle.estate.proofs.mem_estate.MemEstateEstate.sink_committed.Goals as goal
 
-pub returns-then-begin-clause-leads : goal.returns-then-begin-clause-leads
-returns-then-begin-clause-leads c =
-    quiet c.args.self.now.sink.items _ _ _ _ _ refl c.args.self.now.ended (omega arith)
-    (record { log_faults = omega arith; shelf_faults = omega arith; sink_faults = omega arith; losses = omega arith })
-
-pub returns-in_err-find_job-clause-leads : goal.returns-in_err-find_job-clause-leads
-returns-in_err-find_job-clause-leads c = quiet c.args.self.now.sink.items _ _ _ _ _ refl c.args.self.now.ended (omega arith) (counted_refl _)
-
-pub returns-clause-leads : goal.returns-clause-leads
-returns-clause-leads c = quiet c.args.self.now.sink.items _ _ _ _ _ refl c.args.self.now.ended (omega arith) (counted_refl _)
+pub returns-clause-found : goal.returns-clause-found
+returns-clause-found c = λ told.
+    let old = c.args.self.now in
+    let mid = c.enter_sink.new.self in
+    let e = c.in_ok-enter_sink.ensures.entered in
+    c.in_ok-find_job.ensures ∙ ap (λ (l : List Committed). job_under c.args.id.now (commits_in l)) c.deref.ensures.value
+    ∙ ap (λ (l : List Commit). job_under c.args.id.now l) (commits_kept (history_of old) (history_of mid) (clock_of old) old.ended e.enters.sink)

@@ -1,0 +1,5 @@
+pub mod Agreement
+pub mod Commands
+pub mod Items
+pub mod Numerals
+pub mod Places

@@ -1,0 +1,101 @@
+ghost use Rattle.std.specs.Prelude.{◌≡◌, ◌+◌, ◌<◌, ◌≤◌, length, drop, map, Some, None, false, [], slice_index_or, string_bytes, MatchResult, Err, Ok};
+ghost use Rattle.std.specs.Str.{bytes_eq};
+ghost use Rattle.batch_words.specs.Words.{items_from, lone_item, option_name};
+
+use crate::number::read_number;
+use crate::{WordError, WordKind};
+
+/// What was read of the words after the command so far.
+#[derive(Clone, Copy, Debug)]
+pub struct Reading {
+    pub workers: Option<u32>,
+    pub number: Option<u32>,
+}
+
+impl Reading {
+    ghost use Rattle.batch_words.specs.Words.Item.{Workers};
+    ghost use Rattle.batch_words.specs.Steps.{after_item, after_items};
+
+    /// Reads the item at this place, and tells the place after it.
+    pub fn read(
+        &mut self,
+        takes_number: bool,
+        words: &[String],
+        at: usize,
+    ) -> Result<usize, WordError>
+        requires { at < length words.now }
+        ensures { let texts = map string_bytes words.now in MatchResult result
+            (λ next. (at < next) × (next ≤ length words.now)
+            × (after_items takes_number self.old (items_from at (drop at texts))
+            ≡ after_items takes_number self.new (items_from next (drop next texts))))
+            (λ fault. after_items takes_number self.old (items_from at (drop at texts)) ≡ Err fault) }
+    {
+        let word = word_at(words, at);
+        if word == "--workers" {
+            if at + 1 == words.len() {
+                return Err(fault(at, WordKind::MissingNumber));
+            }
+            let number = word_at(words, at + 1);
+            self.read_workers(at, at + 1, number)?;
+            Ok(at + 2)
+        } else {
+            self.read_word(takes_number, at, word)?;
+            Ok(at + 1)
+        }
+    }
+
+    /// Reads a word that is an item by itself.
+    fn read_word(&mut self, takes_number: bool, at: usize, word: &str) -> Result<(), WordError>
+        requires { bytes_eq word.now option_name ≡ false }
+        ensures { MatchResult result
+            (λ _. after_item takes_number self.old (lone_item at word.now) ≡ Ok self.new)
+            (λ fault. after_item takes_number self.old (lone_item at word.now) ≡ Err fault) }
+    {
+        if let Some(number) = word.strip_prefix("--workers=") {
+            return self.read_workers(at, at, number);
+        }
+        if word.starts_with("--") || !takes_number || self.number.is_some() {
+            return Err(fault(at, WordKind::UnknownWord));
+        }
+        let number = read_number(word, 1, 100000);
+        if number.is_none() {
+            return Err(fault(at, WordKind::BadNumber));
+        }
+        self.number = number;
+        Ok(())
+    }
+
+    /// Reads the number of an option, which stands at the option's place or at the next.
+    fn read_workers(&mut self, at: usize, number_at: usize, text: &str) -> Result<(), WordError>
+        ensures { MatchResult result
+            (λ _. after_item false self.old (Workers at (Some (number_at, text.now))) ≡ Ok self.new)
+            (λ fault. after_item false self.old (Workers at (Some (number_at, text.now))) ≡ Err fault) }
+    {
+        let workers = read_number(text, 0, 64);
+        if self.workers.is_some() && (workers.is_some() || at < number_at) {
+            return Err(fault(at, WordKind::Repeated));
+        }
+        if workers.is_none() {
+            return Err(fault(number_at, WordKind::BadNumber));
+        }
+        self.workers = workers;
+        Ok(())
+    }
+}
+
+fn word_at(words: &[String], at: usize) -> &str
+    requires { at < length words.now }
+    ensures { result.now ≡ slice_index_or (map string_bytes words.now) at [] }
+{
+    words[at].as_str()
+}
+
+/// The fault of this kind at this place.
+pub fn fault(at: usize, kind: WordKind) -> WordError
+    ensures { result ≡ WordError.Fault at kind }
+{
+    WordError::Fault {
+        at: at as u64,
+        kind,
+    }
+}
