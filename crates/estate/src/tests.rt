@@ -157,24 +157,30 @@ fn log_left(moment: u64, choice: u32) -> &'static [u8] {
 }
 
 #[test]
-fn log_crashes_at_each_moment(rt: HostRuntime) -> Result<(), Fail> {
+fn crashes_at_each_moment(rt: HostRuntime) -> Result<(), Fail> {
     let alloc = rt.alloc();
+    let id = Bytes::from_slice(alloc, b"id")?;
     let mut estate = MemEstate::new(alloc, &numbers(alloc, &[])?, &no_losses(alloc))?;
+    estate.shelf_put(name(1), &Edges::new(alloc))?;
+    estate.sink_commit(&id, &id, &id)?;
     writes(&mut estate, 0, &Bytes::from_slice(alloc, b"ab")?)?;
     estate.log_sync()?;
     writes(&mut estate, 2, &Bytes::from_slice(alloc, b"cdef")?)?;
     writes(&mut estate, 1, &Bytes::from_slice(alloc, b"xyz")?)?;
     estate.log_sync()?;
-    assert_eq!(rt; estate.moments(), 17);
-    for moment in 0..17 {
+    assert_eq!(rt; estate.moments(), 21);
+    for moment in 0u64..21 {
         for choice in 0..4 {
             let mut left = estate.crash(moment, choice)?;
             assert_eq!(rt; left.moments(), 1);
             let log = whole_log(&mut left)?;
             assert!(rt;
-                log.as_slice() == log_left(moment, choice),
+                log.as_slice() == log_left(moment.saturating_sub(4), choice),
                 "at {moment} by {choice}"
             );
+            assert_eq!(rt; held(&mut left)?.0, usize::from(moment >= 2));
+            let commits = left.commits()?;
+            assert_eq!(rt; commits.as_slice().len(), usize::from(moment >= 4));
         }
     }
     Ok(())
