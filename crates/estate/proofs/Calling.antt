@@ -1,6 +1,7 @@
 -- What the calls on an estate in memory do.
-use Rattle.std.proofs.Common.{◌≡◌, ◌≢◌, ◌⊎◌, inl, inr, ⊎_elim, ℕ, ◌+◌, ◌<◌, ◌≤◌, All, Contains, IsTrue, Bool, true, false, ◌↔◌, min, List, [], ◌∷◌, ◌++◌, map, Option, None, Result, Ok, Err, OnOk, OnErr, refl, sym, ◌∙◌, ap, subst, arith}
+use Rattle.std.proofs.Common.{◌≡◌, ◌≢◌, ◌⊎◌, inl, inr, ⊎_elim, ℕ, ◌+◌, ◌*◌, ◌<◌, ◌≤◌, All, Contains, IsTrue, nat_le, count_by, length, Bool, true, false, ◌↔◌, min, List, [], ◌∷◌, ◌++◌, map, Option, None, Result, Ok, Err, OnOk, OnErr, refl, sym, ◌∙◌, ap, subst, arith}
 use Rattle.std.proofs.lemmas.Bool.{cases_lt}
+use Rattle.std.proofs.lemmas.List.Sums.{length-filter}
 use Rattle.std.proofs.lemmas.List.Elements.{All-push}
 use Rattle.estate.specs.declared.write.Write.{Write}
 use Rattle.estate.specs.declared.log_event.LogEvent.TheVariants.{Synced}
@@ -16,7 +17,7 @@ use Rattle.estate.specs.Disk.{Disk, IsTornBy, whole_log, disk_of, disk_at}
 use Rattle.estate.specs.Shelf.{stored, ever_at, held_in, HasHappened, LosesFrom}
 use Rattle.estate.specs.Pasts.{Past, IsLeftOf, past_world, History, past_at, commits_in, commits_at, HasEnded, Enters}
 use Rattle.estate.proofs.Keeping.{LogStep, ShelfStep, SinkStep, steps_lead}
-use Rattle.estate.proofs.Stepping.{filter_all, all_until, log_same, log_syncs, sink_same, shelf_stays, held_after, ever_still, happened_until}
+use Rattle.estate.proofs.Stepping.{filter_all, all_until, log_same, log_syncs, sink_same, shelf_stays, held_after, ever_still, happened_until, filter_before, filter_still}
 use Rattle.estate.proofs.Leading.{rose_earlier}
 
 -- the present
@@ -47,6 +48,38 @@ durable_now history now all none image u le ge left =
 
     settled : (disk : Disk) (log : List ℕ) → disk.writes ≡ [] → IsTornBy disk.writes disk.durable log → log ≡ whole_log disk
     settled disk log none torn = settled_by disk.writes disk.durable log none torn
+
+-- the time within a call
+
+pub time_within : (calls : ℕ) (old new : List ℕ) → new ≡ old → All (λ d. d ≤ 2 * calls) old → 2 * calls + 1 + count_by (λ d. nat_le d (2 * calls + 1)) new ≡ 2 * calls + length old + 1
+time_within calls old new is all =
+    let all_by : All (λ d. d ≤ 2 * calls + 1) old = all_until (λ (d : ℕ). d) (2 * calls) (2 * calls + 1) old (omega arith) all in
+    let counted : count_by (λ d. nat_le d (2 * calls + 1)) old ≡ length old =
+    sym (length-filter (λ d. nat_le d (2 * calls + 1)) old) ∙ ap (λ (l : List ℕ). length l) (filter_all (λ (d : ℕ). d) (2 * calls + 1) old all_by) in
+    let same = ap (λ (l : List ℕ). count_by (λ d. nat_le d (2 * calls + 1)) l) is in
+    omega (arith, counted, same)
+
+-- what a call adds only at its exit is not there within it
+
+pub log_within : (now u since : ℕ) (changes mid new : List LogChange) → (new ≡ mid) ⊎ (new ≡ mid ++ (record { since = since; event = Synced }) ∷ []) → mid ≡ changes → All (λ c. c.since ≤ now) changes → now ≤ u → u < since
+    → disk_at u new ≡ disk_at now changes
+log_within now u since changes mid new (inl same) is all le lt =
+    ap (disk_at u) (same ∙ is) ∙ ap disk_of (filter_still (λ (c : LogChange). c.since) now u changes le all)
+log_within now u since changes mid new (inr more) is all le lt =
+    ap (disk_at u) (more ∙ ap (λ (l : List LogChange). l ++ (record { since = since; event = Synced }) ∷ []) is)
+    ∙ ap disk_of (filter_before (λ (c : LogChange). c.since) u changes (record { since = since; event = Synced }) lt ∙ filter_still (λ (c : LogChange). c.since) now u changes le all)
+
+pub sink_within : (now u since : ℕ) (sink new : List Committed) (commit : Commit) → new ≡ sink ++ (record { since = since; commit = commit }) ∷ [] → All (λ e. e.since ≤ now) sink → now ≤ u → u < since → commits_at u new ≡ commits_at now sink
+sink_within now u since sink new commit is all le lt =
+    ap (commits_at u) is
+    ∙ ap commits_in (filter_before (λ (e : Committed). e.since) u sink (record { since = since; commit = commit }) lt ∙ filter_still (λ (e : Committed). e.since) now u sink le all)
+
+pub ever_within : (now u since : ℕ) (old mid new : List Shelved) (name : PartName) (edges : List (List (List ℕ))) → new ≡ mid ++ (record { since = since; name = name; edges = edges; lost = None }) ∷ [] → HasHappened now old
+    → LosesFrom (now + 1) old mid → now ≤ u → u < since → ever_at u new ≡ ever_at now old
+ever_within now u since old mid new name edges is happened loses le lt =
+    ap (ever_at u) is
+    ∙ ap (λ (l : List Shelved). map stored l) (filter_before (λ (p : Shelved). p.since) u mid (record { since = since; name = name; edges = edges; lost = None }) lt)
+    ∙ loses.ever u ∙ ever_still now u old le happened
 
 -- one entry more, or none
 pub push_ended : (now : ℕ) (changes new : List LogChange) (change : LogChange) → new ≡ changes ++ change ∷ [] → change.since ≤ now → All (λ c. c.since ≤ now) changes → All (λ c. c.since ≤ now) new

@@ -35,11 +35,11 @@ module _ {X : Type 0} (since : X → ℕ) where
   pub all_until : (u v : ℕ) (xs : List X) → u ≤ v → All (λ x. since x ≤ u) xs → All (λ x. since x ≤ v) xs
   all_until u v xs le all = λ k d lt. let here : since (slice_index_or xs k d) ≤ u = all k d lt in omega arith
 
-  filter_still : (now u : ℕ) (xs : List X) → now ≤ u → All (λ x. since x ≤ now) xs → filter (λ x. nat_le (since x) u) xs ≡ filter (λ x. nat_le (since x) now) xs
+  pub filter_still : (now u : ℕ) (xs : List X) → now ≤ u → All (λ x. since x ≤ now) xs → filter (λ x. nat_le (since x) u) xs ≡ filter (λ x. nat_le (since x) now) xs
   filter_still now u xs le all = filter_all u xs (all_until now u xs le all) ∙ sym (filter_all now xs all)
 
   -- one that stands later
-  filter_before : (u : ℕ) (xs : List X) (x : X) → u < since x → filter (λ y. nat_le (since y) u) (xs ++ x ∷ []) ≡ filter (λ y. nat_le (since y) u) xs
+  pub filter_before : (u : ℕ) (xs : List X) (x : X) → u < since x → filter (λ y. nat_le (since y) u) (xs ++ x ∷ []) ≡ filter (λ y. nat_le (since y) u) xs
   filter_before u xs x below =
       let last : filter (λ y. nat_le (since y) u) (x ∷ []) ≡ [] = grind (arith, nat_tests) in
       filter-append _ xs _ ∙ ap (λ (l : List X). filter (λ y. nat_le (since y) u) xs ++ l) last ∙ append-nil _

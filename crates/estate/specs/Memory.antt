@@ -45,7 +45,12 @@ time_of estate moment = moment + count_by (λ drop. nat_le drop moment) estate.d
 abbrev pub past_of : MemEstate → ℕ → Past
 past_of estate moment = past_at (history_of estate) (time_of estate moment)
 
+-- what stands at the present
+abbrev pub present_of : MemEstate → Past
+present_of estate = past_at (history_of estate) (clock_of estate)
+
 -- a call has begun
 pub record HasEntered (old new : MemEstate) : Type 0 where
+  pub drops : new.drops.items ≡ old.drops.items
   pub enters : Enters (history_of old) (history_of new) (clock_of old) (counts_of old) (counts_of new)
   pub clock : clock_of new ≡ clock_of old + 2

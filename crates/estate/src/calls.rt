@@ -1,4 +1,4 @@
-ghost use Rattle.std.specs.Prelude.{◌≡◌, ◌↔◌, ◌+◌, ◌≤◌, ◌<◌, IfOk, IsTrue, true};
+ghost use Rattle.std.specs.Prelude.{◌≡◌, ◌↔◌, ◌+◌, ◌≤◌, ◌<◌, ◌^◌, IfOk, IsTrue, Contains, true};
 
 use crate::Numbers;
 use row_core::NoMemory;
@@ -13,12 +13,13 @@ pub struct Calls {
     /// How many there were. The first has the number 0.
     pub count: u64,
     failing: Vec<u64>,
-    ghost few: { count ≤ 2305843009213693952 },
+    ghost few: { count ≤ 2 ^ 61 },
 }
 
 impl Calls {
     pub fn new(alloc: Global, failing: &Numbers) -> Result<Self, NoMemory>
-        ensures { IfOk result (λ calls. calls.count ≡ 0) }
+        ensures count { IfOk result (λ calls. calls.count ≡ 0) }
+        ensures failing { IfOk result (λ calls. calls.failing.items ≡ failing.now) }
     {
         Ok(Calls {
             count: 0,
@@ -27,15 +28,17 @@ impl Calls {
     }
 
     pub fn is_full(&self) -> bool
-        ensures { IsTrue result ↔ (self.now.count ≡ 2305843009213693952) }
+        ensures { IsTrue result ↔ (self.now.count ≡ 2 ^ 61) }
     {
         self.count == MOST_CALLS
     }
 
     /// Counts a call, and says whether it is to fail.
     pub fn begin(&mut self) -> bool
-        ensures counted { self.old.count < 2305843009213693952 → self.new.count ≡ self.old.count + 1 }
-        ensures full { self.old.count ≡ 2305843009213693952 → result ≡ true }
+        ensures counted { self.old.count < 2 ^ 61 → self.new.count ≡ self.old.count + 1 }
+        ensures failing { self.new.failing.items ≡ self.old.failing.items }
+        ensures fails { self.old.count < 2 ^ 61 → (IsTrue result ↔ Contains self.old.failing.items self.old.count) }
+        ensures full { self.old.count ≡ 2 ^ 61 → result ≡ true }
     {
         if self.is_full() {
             return true;

@@ -32,6 +32,7 @@ pub struct MemEstate {
     sink_faults: u64,
     losses: u64,
     ghost ended: { HasEnded (record { log = log.changes.items; shelf = shelf.parts.items; sink = sink.items }) (2 * calls.count + length drops.items) },
+    ghost dropped: { All (λ drop. drop ≤ 2 * calls.count) drops.items },
     ghost room: { vec_len drops + length (held_in shelf.parts.items) ≤ vec_capacity drops },
 }
 
@@ -289,10 +290,16 @@ fn push_within(drops: &mut Vec<u64>, moment: u64)
 }
 
 impl Estate for MemEstate {
-    ghost use Rattle.estate.specs.Memory.{mem_world, history_of, clock_of, counts_of};
+    ghost use Rattle.std.specs.Prelude.{◌≢◌, ◌⊎◌, None, Some, IsTrue, IsErrOf};
+    ghost use Rattle.estate.specs.declared.estate_error.EstateError.TheVariants.{NoMemory};
+    ghost use Rattle.estate.specs.Holding.{Holding, StoredPart};
+    ghost use Rattle.estate.specs.Changes.{Step, Stays, Leads, Torn, Same, Holds, HasCause};
+    ghost use Rattle.estate.specs.Memory.{mem_world, history_of, clock_of, counts_of, moments_of, past_of, present_of};
     ghost use Rattle.estate.specs.PastLaws.{past_lawful};
 
     ghost world = { mem_world };
+
+    // Four calls say one thing more than the trait asks: what a crash within them finds.
 
     fn log_len(&mut self) -> Result<u64, EstateError> {
         self.enter_log()?;
@@ -304,21 +311,50 @@ impl Estate for MemEstate {
         Ok(self.log.read(self.alloc, at, len)?)
     }
 
-    fn log_write(&mut self, at: u64, bytes: &Bytes) -> Result<(), EstateError> {
+    fn log_write(&mut self, at: u64, bytes: &Bytes) -> Result<(), EstateError>
+        requires { IsTrue (mem_world self.old).told → at ≤ length (mem_world self.old).holding.log }
+        ensures leads { Leads (Step (Torn at (length bytes.now)) None None) (mem_world self.old) (mem_world self.new) }
+        ensures written { OnOk result (IsTrue (mem_world self.old).told → Holds (mem_world self.old).holding.log at bytes.now (mem_world self.new).holding.log) }
+        ensures memory { IsErrOf result NoMemory → Leads Stays (mem_world self.old) (mem_world self.new) }
+        ensures cause { HasCause (mem_world self.old).counts.log_faults (mem_world self.new).counts.log_faults result }
+        // a write under way is one since the last sync
+        ensures under_way { OnOk result ((past_of self.new (moments_of self.old)).disk ≡ (present_of self.new).disk) }
+    {
         self.enter_log()?;
         let within = self.clock() - 1;
         self.log.write(self.alloc, at, bytes, within)?;
         Ok(())
     }
 
-    fn log_sync(&mut self) -> Result<(), EstateError> {
+    fn log_sync(&mut self) -> Result<(), EstateError>
+        ensures leads { Leads Stays (mem_world self.old) (mem_world self.new) }
+        ensures durable { OnOk result ((image : Holding) → (mem_world self.new).images (mem_world self.new).now image → image.log ≡ (mem_world self.new).holding.log) }
+        ensures memory { IsErrOf result NoMemory → ⊥ }
+        ensures cause { HasCause (mem_world self.old).counts.log_faults (mem_world self.new).counts.log_faults result }
+        // a sync under way has not happened
+        ensures under_way { OnOk result ((past_of self.new (moments_of self.old)).disk ≡ (present_of self.old).disk) }
+    {
         self.enter_log()?;
         let exit = self.clock();
         self.log.sync(exit);
         Ok(())
     }
 
-    fn shelf_put(&mut self, name: PartName, edges: &Edges) -> Result<(), EstateError> {
+    fn shelf_put(&mut self, name: PartName, edges: &Edges) -> Result<(), EstateError>
+        requires { IsTrue (mem_world self.old).told → (part : StoredPart) → Contains (mem_world self.old).holding.ever part → part.name ≢ name }
+        ensures leads { Leads (Step Same (Some (record { name = name; edges = edges.now })) None) (mem_world self.old) (mem_world self.new) }
+        ensures put { OnOk result (IsTrue (mem_world self.old).told →
+            ((mem_world self.new).holding.ever ≡ (mem_world self.old).holding.ever ++ (record { name = name; edges = edges.now }) ∷ [])
+            × Contains (mem_world self.new).holding.held name) }
+        ensures failed { IsErrOf result EstateError.Failed → IsTrue (mem_world self.old).told →
+            (((mem_world self.new).holding.ever ≡ (mem_world self.old).holding.ever ++ (record { name = name; edges = edges.now }) ∷ [])
+            × Contains (mem_world self.new).holding.held name)
+            ⊎ (((mem_world self.new).holding.ever ≡ (mem_world self.old).holding.ever) × ¬ (Contains (mem_world self.new).holding.held name)) }
+        ensures memory { IsErrOf result NoMemory → Leads Stays (mem_world self.old) (mem_world self.new) }
+        ensures cause { HasCause (mem_world self.old).counts.shelf_faults (mem_world self.new).counts.shelf_faults result }
+        // a part under way is not there
+        ensures under_way { OnOk result ((past_of self.new (moments_of self.old)).ever ≡ (present_of self.old).ever) }
+    {
         self.enter_shelf()?;
         let exit = self.clock();
         self.drops.reserve(self.shelf.parts.as_slice().len() + 1)?;
@@ -347,7 +383,15 @@ impl Estate for MemEstate {
         Ok(self.shelf.names(self.alloc)?)
     }
 
-    fn sink_commit(&mut self, id: &Bytes, job: &Bytes, text: &Bytes) -> Result<(), EstateError> {
+    fn sink_commit(&mut self, id: &Bytes, job: &Bytes, text: &Bytes) -> Result<(), EstateError>
+        ensures leads { Leads (Step Same None (Some (record { id = id.now; job = job.now; text = text.now }))) (mem_world self.old) (mem_world self.new) }
+        ensures committed { OnOk result (IsTrue (mem_world self.old).told →
+            (mem_world self.new).holding.commits ≡ (mem_world self.old).holding.commits ++ (record { id = id.now; job = job.now; text = text.now }) ∷ []) }
+        ensures memory { IsErrOf result NoMemory → Leads Stays (mem_world self.old) (mem_world self.new) }
+        ensures cause { HasCause (mem_world self.old).counts.sink_faults (mem_world self.new).counts.sink_faults result }
+        // a commit under way is not there
+        ensures under_way { OnOk result ((past_of self.new (moments_of self.old)).commits ≡ (present_of self.old).commits) }
+    {
         self.enter_sink()?;
         let commit = Commit::from_slices(
             self.alloc,

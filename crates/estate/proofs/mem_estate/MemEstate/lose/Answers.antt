@@ -1,4 +1,4 @@
-use Rattle.std.proofs.Common.{◌≡◌, ◌+◌, ◌*◌, ℕ, List, [], ◌∷◌, length, inr, Contains, sym, ap, subst, arith, length-append}
+use Rattle.std.proofs.Common.{◌≡◌, ◌+◌, ◌*◌, ℕ, List, [], ◌∷◌, length, inr, Contains, sym, ap, subst, arith, length-append, All, ◌≤◌}
 use Rattle.estate.specs.declared.part_name.PartName.{PartName}
 use Rattle.estate.specs.declared.shelved.Shelved.{Shelved}
 use Rattle.estate.specs.Shelf.{held_in, HasHappened}
@@ -6,6 +6,7 @@ use Rattle.estate.specs.Memory.{history_of, clock_of, counts_of}
 use Rattle.estate.proofs.Stepping.{held_after}
 use Rattle.estate.proofs.Losing.{loses_from, loses_count}
 use Rattle.estate.proofs.Calling.{enters_by, enter_leads, ended_later, rose_by}
+use Rattle.std.proofs.lemmas.List.Elements.{All-push}
 use Rattle.estate.proofs.mem_estate.MemEstate.lose.Goals as goal
 
 pub invariant_of-self-clause-ended : goal.invariant_of-self-clause-ended
@@ -79,3 +80,9 @@ returns-else-lose-clause-rose c = λ had.
     let m = c.args.self.now in
     let held = subst (λ (l : List PartName). Contains l c.args.name) (held_after (clock_of m) m.shelf.parts.items m.ended.shelf) had in
     absurd (c.lose.ensures.gone (subst (λ (l : List Shelved). Contains (held_in l) c.args.name) (sym (c.lose.ensures.same c.if-lose.false)) held))
+
+pub invariant_of-self-clause-dropped : goal.invariant_of-self-clause-dropped
+invariant_of-self-clause-dropped c =
+    let m = c.args.self.now in
+    subst (λ (l : List ℕ). All (λ d. d ≤ 2 * m.calls.count) l) (sym c.push_within.ensures.items)
+    (All-push (λ (d : ℕ). d ≤ 2 * m.calls.count) m.drops.items (2 * m.calls.count) m.dropped (omega arith))

@@ -1,4 +1,4 @@
-use Rattle.std.proofs.Common.{◌≡◌, ◌-◌, ℕ, List, [], ◌∷◌, ◌++◌, length, None, refl, ◌∙◌, ap, arith}
+use Rattle.std.proofs.Common.{sym, subst, ◌≤◌, ◌≡◌, ◌-◌, ℕ, List, [], ◌∷◌, ◌++◌, length, None, refl, ◌∙◌, ap, arith, All, ◌+◌}
 use Rattle.estate.specs.declared.log_change.LogChange.{LogChange}
 use Rattle.estate.specs.declared.log_event.LogEvent.TheVariants.{Wrote}
 use Rattle.estate.specs.declared.write.Write.{Write}
@@ -9,6 +9,9 @@ use Rattle.estate.proofs.Torn.{torn_refl}
 use Rattle.estate.proofs.Leading.{leads_more}
 use Rattle.estate.proofs.Stepping.{log_writes, whole_write, sink_same, shelf_stays}
 use Rattle.estate.proofs.Calling.{call_leads, leads_same, log_kept, log_now, push_ended}
+use Rattle.estate.specs.Memory.{moments_of, time_of}
+use Rattle.estate.proofs.Stepping.{all_until}
+use Rattle.estate.proofs.Calling.{time_within, disk_now}
 use Rattle.estate.proofs.mem_estate.MemEstateEstate.log_write.Goals as goal
 
 pub returns-in_err-enter_log-clause-leads : goal.returns-in_err-enter_log-clause-leads
@@ -54,3 +57,19 @@ returns-clause-written c = λ told.
     let all = push_ended (clock_of mid) mid.log.changes.items c.write.new.self.changes.items (record { since = since; event = Wrote write }) c.in_ok-write.ensures.ok (omega (arith, at_exit)) mid.ended.log in
     log_now (clock_of mid) c.write.new.self.changes.items all ∙ whole_write mid.log.changes.items c.write.new.self.changes.items since write c.in_ok-write.ensures.ok
     ∙ ap (λ (l : List ℕ). overwritten l c.args.at c.args.bytes.now) (log_kept (history_of old) (history_of mid) (clock_of old) old.ended e.enters.log)
+
+pub returns-clause-under_way : goal.returns-clause-under_way
+returns-clause-under_way c =
+    let old = c.args.self.now in
+    let mid = c.enter_log.new.self in
+    let e = c.in_ok-enter_log.ensures.entered in
+    let new = c.write.new.self.changes.items in
+    let write : Write = record { at = c.args.at; bytes = c.args.bytes.now } in
+    let since = c.clock-within.result - 1 in
+    let at_exit : c.clock-within.result ≡ clock_of mid = c.clock-within.ensures.clock in
+    let within : time_of c.enter_log.new.self (moments_of old) ≡ clock_of old + 1 = time_within old.calls.count old.drops.items mid.drops.items e.drops old.dropped in
+    let u = time_of mid (moments_of old) in
+    let before : All (λ (x : LogChange). x.since ≤ u) mid.log.changes.items =
+    subst (λ (l : List LogChange). All (λ x. x.since ≤ u) l) (sym e.enters.log) (all_until (λ (x : LogChange). x.since) (clock_of old) u old.log.changes.items (omega arith) old.ended.log) in
+    let all = push_ended u mid.log.changes.items new (record { since = since; event = Wrote write }) c.in_ok-write.ensures.ok (omega (arith, e.clock, at_exit, within)) before in
+    disk_now u new all ∙ sym (disk_now (clock_of mid) new (all_until (λ (x : LogChange). x.since) u (clock_of mid) new (omega (arith, e.clock, within)) all))

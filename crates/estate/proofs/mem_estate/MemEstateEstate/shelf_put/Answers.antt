@@ -1,4 +1,4 @@
-use Rattle.std.proofs.Common.{◌≡◌, ◌+◌, ◌*◌, ◌≤◌, ℕ, List, [], ◌∷◌, ◌++◌, length, map, Some, None, Contains, inr, ⊎_elim, refl, sym, ◌∙◌, ap, subst, arith, length-append}
+use Rattle.std.proofs.Common.{◌≡◌, ◌+◌, ◌*◌, ◌≤◌, ℕ, List, [], ◌∷◌, ◌++◌, length, map, Some, None, Contains, inr, ⊎_elim, refl, sym, ◌∙◌, ap, subst, arith, length-append, nat_le, count_by, All}
 use Rattle.std.proofs.lemmas.List.{map-append}
 use Rattle.std.proofs.lemmas.List.Elements.{Contains-push, Contains-append_left}
 use Rattle.estate.specs.declared.log_change.LogChange.{LogChange}
@@ -15,6 +15,8 @@ use Rattle.estate.proofs.Stepping.{log_same, sink_same, held_after, happened_unt
 use Rattle.estate.proofs.Losing.{shelf_puts, held_add, happened_add, fresh_by}
 use Rattle.estate.proofs.Recalling.{held_few}
 use Rattle.estate.proofs.Calling.{call_leads, leads_same, ever_now, ever_kept, not_held, either}
+use Rattle.estate.specs.Memory.{moments_of}
+use Rattle.estate.proofs.Calling.{time_within, ever_within}
 use Rattle.estate.proofs.mem_estate.MemEstateEstate.shelf_put.Goals as goal
 
 pub returns-in_err-enter_shelf-clause-leads : goal.returns-in_err-enter_shelf-clause-leads
@@ -126,3 +128,19 @@ returns-clause-put c = λ told.
       ever_now later new happened_new ∙ ap (λ (l : List Shelved). map stored l) is ∙ map-append _ mid.shelf.parts.items _ ∙ ap (λ (l : List StoredPart). l ++ part ∷ []) ever,
       subst (λ (l : List PartName). Contains l name) (sym (held_after later new happened_new ∙ held_add mid.shelf.parts.items new since name c.args.edges.now is)) (Contains-push (held_in mid.shelf.parts.items) name),
     )
+
+pub returns-clause-under_way : goal.returns-clause-under_way
+returns-clause-under_way c =
+    let old = c.args.self.now in
+    let mid = c.enter_shelf.new.self in
+    let e = c.in_ok-enter_shelf.ensures.entered in
+    let at_exit : c.clock-exit.result ≡ clock_of mid = c.clock-exit.ensures.clock in
+    let drops = c.reserve.ensures.items ∙ e.drops in
+    let u = moments_of old + count_by (λ d. nat_le d (moments_of old)) c.reserve.new.self.items in
+    let within : u ≡ clock_of old + 1 = time_within old.calls.count old.drops.items c.reserve.new.self.items drops old.dropped in
+    ever_within (clock_of old) u c.clock-exit.result old.shelf.parts.items mid.shelf.parts.items c.add.new.self.parts.items c.args.name c.in_ok-edges.edges c.in_ok-add.ensures.ok old.ended.shelf e.enters.shelf (omega arith) (omega (arith, e.clock, at_exit, within))
+
+pub invariant_of-self-2-clause-dropped : goal.invariant_of-self-2-clause-dropped
+invariant_of-self-2-clause-dropped c =
+    let mid = c.enter_shelf.new.self in
+    subst (λ (l : List ℕ). All (λ d. d ≤ 2 * mid.calls.count) l) (sym c.reserve.ensures.items) mid.dropped

@@ -1,4 +1,4 @@
-use Rattle.std.proofs.Common.{◌≡◌, List, [], ◌∷◌, ◌++◌, Some, None, refl, ◌∙◌, ap, arith}
+use Rattle.std.proofs.Common.{◌≡◌, List, [], ◌∷◌, ◌++◌, Some, None, refl, ◌∙◌, ap, arith, ◌+◌}
 use Rattle.estate.specs.declared.committed.Committed.{Committed}
 use Rattle.estate.specs.declared.commit.Commit.{Commit}
 use Rattle.estate.specs.Changes.{Same}
@@ -6,6 +6,8 @@ use Rattle.estate.specs.Memory.{mem_world, history_of, clock_of, counts_of}
 use Rattle.estate.proofs.Leading.{leads_more}
 use Rattle.estate.proofs.Stepping.{log_same, sink_gains, shelf_stays}
 use Rattle.estate.proofs.Calling.{call_leads, leads_same}
+use Rattle.estate.specs.Memory.{moments_of, time_of}
+use Rattle.estate.proofs.Calling.{time_within, sink_within}
 use Rattle.estate.proofs.mem_estate.MemEstateEstate.sink_commit.Goals as goal
 
 pub returns-in_err-enter_sink-clause-leads : goal.returns-in_err-enter_sink-clause-leads
@@ -43,3 +45,13 @@ returns-clause-leads c =
     (shelf_stays (clock_of old) old.shelf.parts.items mid.shelf.parts.items old.ended.shelf e.enters.shelf)
     (sink_gains (clock_of old) since old.sink.items c.push.new.self.items given old.ended.sink (omega (arith, e.clock, at_exit)) is)
     (λ name has. has)
+
+pub returns-clause-under_way : goal.returns-clause-under_way
+returns-clause-under_way c =
+    let old = c.args.self.now in
+    let mid = c.enter_sink.new.self in
+    let e = c.in_ok-enter_sink.ensures.entered in
+    let at_exit : c.clock.result ≡ clock_of mid = c.clock.ensures.clock in
+    let within : time_of c.enter_sink.new.self (moments_of old) ≡ clock_of old + 1 = time_within old.calls.count old.drops.items mid.drops.items e.drops old.dropped in
+    sink_within (clock_of old) (time_of mid (moments_of old)) c.clock.result old.sink.items c.push.new.self.items c.in_ok-commit.commit
+    (c.in_ok-push.ensures.items ∙ ap (λ (l : List Committed). l ++ (record { since = c.clock.result; commit = c.in_ok-commit.commit }) ∷ []) e.enters.sink) old.ended.sink (omega arith) (omega (arith, e.clock, at_exit, within))
