@@ -1,18 +1,25 @@
-//! Values, rows and bytes, their order, and the expressions and tests over a row.
+//! Values, rows and bytes, their order, their encoding and hash, and the expressions and tests over
+//! a row.
 #![tactic(auto)]
 
 mod bytes;
 mod cell_rows;
 mod cmp;
 mod columns;
+mod decoding;
+mod encoding;
 mod evaluation;
 mod expr;
+mod hashing;
 mod judgement;
 mod no_memory;
 mod operand;
 mod pred;
 mod row;
+mod row_error;
 mod rows;
+#[cfg(test)]
+mod tests;
 mod truth;
 mod value;
 
@@ -20,12 +27,16 @@ pub use bytes::Bytes;
 pub use cell_rows::CellRows;
 pub use cmp::Cmp;
 pub use columns::Columns;
+pub use decoding::{decode_rows, one_spelling};
+pub use encoding::encode_row;
 pub use evaluation::eval;
 pub use expr::Expr;
+pub use hashing::{key_hash, one_hash};
 pub use judgement::holds;
 pub use no_memory::NoMemory;
 pub use pred::Pred;
 pub use row::{Row, cmp_rows};
+pub use row_error::RowError;
 pub use rows::Rows;
 pub use truth::Truth;
 pub use value::{TEXT_LIMIT, Value};

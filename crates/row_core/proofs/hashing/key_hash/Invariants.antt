@@ -1,0 +1,6 @@
+use Rattle.std.proofs.Common.{◌≡◌, take}
+use Rattle.row_core.specs.Hashing.{hash_of_key, key_of}
+use Rattle.row_core.proofs.hashing.key_hash.Given as goal
+
+abbrev pub invariant-loop-column : goal.invariant-loop-column
+invariant-loop-column l = l.state ≡ hash_of_key (key_of (take l.column-index l.cols) l.row)

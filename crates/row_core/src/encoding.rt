@@ -1,0 +1,42 @@
+ghost use Rattle.std.specs.Prelude.{◌≡◌, ◌++◌, ◌≤◌, length, IfOk, OnOk};
+ghost use Rattle.std.specs.List.{AllByRecursion};
+ghost use Rattle.row_core.specs.Encoding.{value_bytes, row_bytes, TextFits, ValueFits, RowFits};
+
+use crate::{Bytes, NoMemory, Row, Value};
+use std::alloc::Global;
+
+/// The row's bytes: its number of values, and the values. docs/FORMATS.md has the format.
+pub fn encode_row(alloc: Global, row: &Row) -> Result<Bytes, NoMemory>
+    requires width { length row.now ≤ 256 }
+    requires texts { AllByRecursion TextFits row.now }
+    ensures spelled { IfOk result (λ bytes. bytes ≡ row_bytes row.now) }
+    // So the bytes decode.
+    ensures fits { OnOk result (RowFits row.now) }
+{
+    let mut bytes = Bytes::new(alloc);
+    bytes.extend(&(row.len() as u16).to_be_bytes())?;
+    for value in row.as_slice() {
+        put_value(&mut bytes, value)?;
+    }
+    Ok(bytes)
+}
+
+fn put_value(bytes: &mut Bytes, value: &Value) -> Result<(), NoMemory>
+    requires { TextFits value.now }
+    ensures spelled { OnOk result (bytes.new ≡ bytes.old ++ value_bytes value.now) }
+    ensures fits { OnOk result (ValueFits value.now) }
+{
+    match value {
+        Value::Null => bytes.push(0)?,
+        Value::Int(number) => {
+            bytes.push(1)?;
+            bytes.extend(&number.cast_unsigned().to_be_bytes())?;
+        }
+        Value::Text(text) => {
+            bytes.push(2)?;
+            bytes.extend(&(text.len() as u32).to_be_bytes())?;
+            bytes.extend(text.as_slice())?;
+        }
+    }
+    Ok(())
+}
