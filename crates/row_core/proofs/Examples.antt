@@ -1,5 +1,5 @@
 -- What the definitions say of one row, and of few bytes.
-use Rattle.std.proofs.Common.{◌≡◌, ℕ, ◌%◌, List, [], ◌∷◌, ◌++◌, pos, negsuc, refl}
+use Rattle.std.proofs.Common.{◌≡◌, ◌%◌, List, [], ◌∷◌, pos, negsuc, refl}
 use Rattle.row_core.specs.declared.value.Value.{Value}
 use Rattle.row_core.specs.declared.value.Value.TheVariants.{Null, Int, Text}
 use Rattle.row_core.specs.Encoding.{value_bytes, row_bytes}

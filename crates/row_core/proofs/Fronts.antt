@@ -1,5 +1,5 @@
 -- No spelling begins another: of values, of rows, and of lists of them.
-use Rattle.std.proofs.Common.{◌≡◌, ℕ, ℤ, ◌+◌, ◌^◌, ◌<◌, ◌≤◌, List, [], ◌∷◌, ◌++◌, length, refl, sym, ap, subst, ◌∙◌, append_assoc, arith, ◌⊎◌, inl, inr}
+use Rattle.std.proofs.Common.{◌≡◌, ℕ, ℤ, ◌^◌, ◌<◌, ◌≤◌, List, [], ◌∷◌, ◌++◌, length, refl, sym, ap, ◌∙◌, append_assoc, arith, ◌⊎◌, inl, inr}
 use Rattle.std.specs.Prelude.{FitsSigned}
 use Rattle.std.specs.List.{flat_map, AllByRecursion}
 use Rattle.std.specs.Int.{w16, w32, w64, to_be_bytes, cast_unsigned, cast_signed}
@@ -84,8 +84,8 @@ lists_same spell Fits free items others x y fit_items fit_others len h =
     elim (lists_front spell Fits free items others x y fit_items fit_others h) [
       | inl longer ↦ none_longer spell Fits items others x y (omega arith) longer
       | inr longer ↦
-        let same = none_longer spell Fits others items y x (omega arith) longer in
-        (sym same.0, sym same.1)
+          let same = none_longer spell Fits others items y x (omega arith) longer in
+          (sym same.0, sym same.1)
     ]
 
 pub row_front : (a b : List Value) (x y : List ℕ) → RowFits a → RowFits b → row_bytes a ++ x ≡ row_bytes b ++ y → (a ≡ b) × (x ≡ y)

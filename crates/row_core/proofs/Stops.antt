@@ -1,13 +1,12 @@
 -- Where decoding stops: there is one place at most, and none in bytes that are rows.
-use Rattle.std.proofs.Common.{◌≡◌, ℕ, ◌+◌, ◌-◌, ◌<◌, ◌≤◌, List, [], ◌∷◌, ◌++◌, length, take, drop, Result, Ok, Err, refl, sym, ap, ◌∙◌, append_assoc, arith, inl, inr}
+use Rattle.std.proofs.Common.{◌≡◌, ℕ, ◌+◌, ◌<◌, List, [], ◌∷◌, ◌++◌, length, drop, Result, Ok, Err, refl, sym, ap, ◌∙◌, append_assoc, arith, inl, inr}
 use Rattle.std.specs.Prelude.{IfOk, IfErr}
-use Rattle.std.specs.List.{flat_map}
-use Rattle.std.proofs.lemmas.List.{append-nil, length-append, length-drop, take-append-drop, take_at, drop_at}
+use Rattle.std.proofs.lemmas.List.{append-nil, length-append, length-drop, take-append-drop}
 use Rattle.row_core.specs.declared.value.Value.{Value}
 use Rattle.row_core.specs.declared.row_error.RowError.{RowError}
 use Rattle.row_core.specs.declared.row_error.RowError.TheVariants.{Bad, NoMemory}
 use Rattle.row_core.specs.Encoding.{row_bytes, rows_bytes, RowFits, RowsFit, StopsAt}
-use Rattle.row_core.specs.Decoding.{Begins, NoneBegins, IsCause, GivesRows, GivesBad}
+use Rattle.row_core.specs.Decoding.{IsCause, GivesRows, GivesBad}
 use Rattle.row_core.proofs.Fronts.{IsLonger, lists_front, rows_free, rows_same}
 
 -- where rows stop, no rows go further
@@ -28,11 +27,11 @@ stops_not_whole bytes at stop rows fit whole =
     let left = length-drop at bytes in
     elim (lists_front row_bytes RowFits rows_free stop.rows rows (drop at bytes) [] stop.fit fit (stop_front bytes at stop ∙ whole ∙ sym (append-nil (rows_bytes rows)))) [
       | inl longer ↦
-        let nothing : length (drop at bytes) ≡ 0 = ap length (stops_first bytes at stop rows [] longer) in
-        absurd (omega arith)
+          let nothing : length (drop at bytes) ≡ 0 = ap length (stops_first bytes at stop rows [] longer) in
+          absurd (omega arith)
       | inr longer ↦
-        let nothing : 0 ≡ length (rows_bytes longer.more) + length (drop at bytes) = ap length longer.rest ∙ length-append (rows_bytes longer.more) (drop at bytes) in
-        absurd (omega arith)
+          let nothing : 0 ≡ length (rows_bytes longer.more) + length (drop at bytes) = ap length longer.rest ∙ length-append (rows_bytes longer.more) (drop at bytes) in
+          absurd (omega arith)
     ]
 
 same_left : (bytes : List ℕ) (a b : ℕ) → a < length bytes → b < length bytes → drop a bytes ≡ drop b bytes → a ≡ b
@@ -61,16 +60,3 @@ only_stop bytes (Err (Bad place)) found cause at stop = stops_once bytes place a
 pub only_row : (bytes : List ℕ) (answer : Result (List (List Value)) RowError) → IfOk answer (λ rows. RowsFit rows × (bytes ≡ rows_bytes rows)) → IfErr answer (λ error. IsCause bytes error)
     → (row : List Value) → RowFits row → bytes ≡ row_bytes row → GivesRows answer (row ∷ [])
 only_row bytes answer found cause row fit whole = only_rows bytes answer found cause (row ∷ []) (fit, tt) (whole ∙ sym (append-nil (row_bytes row)))
-
--- rows that were read, and a rest that begins with none
-pub stopped : (bytes : List ℕ) (rows : List (List Value)) (rest : List ℕ) → Begins rows_bytes RowsFit bytes rows rest → 0 < length rest → NoneBegins row_bytes RowFits rest → StopsAt bytes (length bytes - length rest)
-stopped bytes rows rest read more none =
-    let whole : length bytes ≡ length (rows_bytes rows) + length rest = ap length read.front ∙ length-append (rows_bytes rows) rest in
-    let at : length (rows_bytes rows) ≡ length bytes - length rest = omega arith in
-    record {
-      rows = rows;
-      fit = read.fits;
-      before = ap (take (length bytes - length rest)) read.front ∙ take_at (rows_bytes rows) rest (length bytes - length rest) at;
-      more = omega arith;
-      none = λ row after fits h. none row after (record { fits = fits; front = sym (drop_at (rows_bytes rows) rest (length bytes - length rest) at) ∙ sym (ap (drop (length bytes - length rest)) read.front) ∙ h });
-    }

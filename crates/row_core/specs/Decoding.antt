@@ -4,7 +4,7 @@ use Rattle.std.specs.List.{AllByRecursion}
 use Rattle.row_core.specs.declared.value.Value.{Value}
 use Rattle.row_core.specs.declared.row_error.RowError.{RowError}
 use Rattle.row_core.specs.declared.row_error.RowError.TheVariants.{Bad, NoMemory}
-use Rattle.row_core.specs.Encoding.{ValueFits, values_bytes, StopsAt}
+use Rattle.row_core.specs.Encoding.{ValueFits, StopsAt}
 
 -- the bytes begin with the spelling of an item that fits, and this is what follows
 pub record Begins {A : Type 0} (spell : A → List ℕ) (Fits : A → Type 0) (bytes : List ℕ) (item : A) (rest : List ℕ) : Type 0 where

@@ -30,8 +30,7 @@ pub fn one_spelling()
     ensures rows { (a b : List (List OneValue)) → RowsFit a → RowsFit b → rows_bytes a ≡ rows_bytes b → a ≡ b }
     ensures row { (a b : List OneValue) (x y : List ℕ) → RowFits a → RowFits b
         → row_bytes a ++ x ≡ row_bytes b ++ y → (a ≡ b) × (x ≡ y) }
-{
-}
+{}
 
 fn read_rows(alloc: Global, bytes: &[u8]) -> Result<Rows, RowError>
     ensures found { IfOk result (λ rows. RowsFit rows × (bytes.now ≡ rows_bytes rows)) }
@@ -66,11 +65,7 @@ fn read_row(alloc: Global, bytes: &[u8]) -> Result<Option<(Row, &[u8])>, NoMemor
 }
 
 // This many values that the bytes begin with.
-fn read_values(
-    alloc: Global,
-    count: u16,
-    bytes: &[u8],
-) -> Result<Option<(Row, &[u8])>, NoMemory>
+fn read_values(alloc: Global, count: u16, bytes: &[u8]) -> Result<Option<(Row, &[u8])>, NoMemory>
     ensures { IfOk result (λ read. MatchOption read (NoneBegins values_bytes (AreValues count) bytes.now)
         (λ x. Begins values_bytes (AreValues count) bytes.now x.0 x.1.now)) }
 {

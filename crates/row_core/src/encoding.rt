@@ -1,6 +1,8 @@
-ghost use Rattle.std.specs.Prelude.{◌≡◌, ◌++◌, ◌≤◌, length, IfOk, OnOk};
+ghost use Rattle.std.specs.Prelude.{◌≡◌, ◌++◌, ◌≤◌, ℕ, List, length, IfOk, OnOk};
 ghost use Rattle.std.specs.List.{AllByRecursion};
+ghost use Rattle.row_core.specs.declared.value.Value.{Value as OneValue};
 ghost use Rattle.row_core.specs.Encoding.{value_bytes, row_bytes, TextFits, ValueFits, RowFits};
+ghost use Rattle.row_core.specs.Hashing.{key_of};
 
 use crate::{Bytes, NoMemory, Row, Value};
 use std::alloc::Global;
@@ -20,6 +22,13 @@ pub fn encode_row(alloc: Global, row: &Row) -> Result<Bytes, NoMemory>
     }
     Ok(bytes)
 }
+
+/// What decodes may be encoded again, and its keys may be hashed.
+pub fn texts_fit()
+    ensures row { (row : List OneValue) → RowFits row → AllByRecursion TextFits row }
+    ensures key { (row : List OneValue) (columns : List ℕ) → AllByRecursion TextFits row
+        → AllByRecursion TextFits (key_of columns row) }
+{}
 
 fn put_value(bytes: &mut Bytes, value: &Value) -> Result<(), NoMemory>
     requires { TextFits value.now }

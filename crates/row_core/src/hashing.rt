@@ -7,6 +7,7 @@ ghost use Rattle.row_core.specs.Hashing.{hash_from, hash_of_key, key_of};
 use crate::{Columns, Row, Value};
 
 const HASH_START: u64 = 14_695_981_039_346_656_037;
+
 const HASH_PRIME: u64 = 1_099_511_628_211;
 
 /// The hash of the row's values in these columns, in the order of the columns. docs/FORMATS.md has the rule.
@@ -26,8 +27,7 @@ pub fn key_hash(row: &Row, cols: &Columns) -> u64
 pub fn one_hash()
     ensures { (a b : List OneValue) (columns others : List ℕ) → key_of columns a ≡ key_of others b
         → hash_of_key (key_of columns a) ≡ hash_of_key (key_of others b) }
-{
-}
+{}
 
 // The state after the value's bytes.
 fn hash_value(state: u64, value: &Value) -> u64

@@ -28,7 +28,7 @@ pub use cell_rows::CellRows;
 pub use cmp::Cmp;
 pub use columns::Columns;
 pub use decoding::{decode_rows, one_spelling};
-pub use encoding::encode_row;
+pub use encoding::{encode_row, texts_fit};
 pub use evaluation::eval;
 pub use expr::Expr;
 pub use hashing::{key_hash, one_hash};

@@ -1,7 +1,9 @@
-ghost use Rattle.std.specs.Prelude.{◌≡◌, [], ◌∷◌, pos, IfOk};
+ghost use Rattle.std.specs.Prelude.{◌≡◌, [], ◌∷◌, pos, IfOk, IsTrue};
 ghost use Rattle.row_core.specs.declared.value.Value.TheVariants.{Null, Int, Text};
+ghost use Rattle.row_core.specs.Exprs.{columns_within, pred_within};
 
 use super::*;
+use sqlite_items::Boxed;
 use std::alloc::Global;
 use std::test::Fail;
 
@@ -17,9 +19,38 @@ fn sample(alloc: Global) -> Result<Row, NoMemory>
     Ok(row)
 }
 
-const SAMPLE: &[u8] = &[
-    0, 3, 1, 0, 0, 0, 0, 0, 0, 0, 7, 0, 2, 0, 0, 0, 2, 97, 98,
-];
+const SAMPLE: &[u8] = &[0, 3, 1, 0, 0, 0, 0, 0, 0, 0, 7, 0, 2, 0, 0, 0, 2, 97, 98];
+
+// The row's text behind -7.
+fn joined(alloc: Global) -> Result<Expr, NoMemory>
+    ensures { IfOk result (λ expr. IsTrue (columns_within 3 expr)) }
+{
+    let number = Boxed::new(alloc, Expr::Const(Value::Int(-7)))?;
+    let column = Boxed::new(alloc, Expr::Col(2))?;
+    Ok(Expr::Concat(number, column))
+}
+
+// Whether that is the text -7ab.
+fn is_joined(alloc: Global) -> Result<Pred, NoMemory>
+    ensures { IfOk result (λ test. IsTrue (pred_within 3 test)) }
+{
+    let wanted = Value::Text(Bytes::from_slice(alloc, b"-7ab")?);
+    Ok(Pred::Test(Cmp::Eq, joined(alloc)?, Expr::Const(wanted)))
+}
+
+#[test]
+fn evaluates(rt: HostRuntime) -> Result<(), Fail> {
+    let value = eval(rt.alloc(), &joined(rt.alloc())?, &sample(rt.alloc())?)?;
+    let wanted = Value::Text(Bytes::from_slice(rt.alloc(), b"-7ab")?);
+    assert!(rt; value.cmp(&wanted).is_eq());
+    Ok(())
+}
+
+#[test]
+fn judges(rt: HostRuntime) -> Result<(), Fail> {
+    assert!(rt; holds(rt.alloc(), &is_joined(rt.alloc())?, &sample(rt.alloc())?)?);
+    Ok(())
+}
 
 #[test]
 fn encodes_a_row(rt: HostRuntime) -> Result<(), Fail> {
@@ -73,7 +104,9 @@ const REFUSED: &[(&[u8], u64)] = &[
 fn refuses_bytes(rt: HostRuntime) -> Result<(), Fail> {
     for (bytes, at) in REFUSED {
         let bytes = Bytes::from_slice(rt.alloc(), bytes)?;
-        let refusal = decode_rows(rt.alloc(), &bytes).err().ok_or("these are no rows")?;
+        let refusal = decode_rows(rt.alloc(), &bytes)
+            .err()
+            .ok_or("these are no rows")?;
         assert_eq!(rt; refusal, RowError::Bad { at: *at });
     }
     Ok(())

@@ -1,5 +1,4 @@
-use Rattle.std.proofs.Common.{◌≡◌, ◌<◌, length, get_or, sym, ap, ◌∙◌, arith}
-use Rattle.row_core.specs.declared.value.Value.TheVariants.{Null}
+use Rattle.std.proofs.Common.{◌<◌, length, ap, ◌∙◌, arith}
 use Rattle.row_core.specs.Encoding.{value_bytes}
 use Rattle.row_core.specs.Hashing.{hash_from}
 use Rattle.row_core.proofs.Hashes.{hash_from-nil, hash_key_more, key_text_fits, column_value}
