@@ -1,8 +1,8 @@
 -- Rows, their order, and operators that go by what their rows have in common.
-use Rattle.std.specs.Prelude.{◌≡◌, Bool, false, List, [], ◌++◌, All}
+use Rattle.std.specs.Prelude.{◌≡◌, Bool, false, List, [], ◌++◌, map, filter, All}
 use Rattle.std.specs.Ordering.{is_lt}
-use Rattle.row_core.specs.Bags.{SameBag}
-use Rattle.row_core.specs.Values.{row_cmp}
+use Rattle.row_core.specs.Bags.{SameBag, one_of_each}
+use Rattle.row_core.specs.Values.{row_cmp, same_row}
 use Rattle.row_core.specs.declared.value.Value.{Value}
 
 -- the values of a row
@@ -21,3 +21,7 @@ pub record IsKeyed (meets : OneRow → OneRow → Bool) (op : List OneRow → Li
   pub none : op [] ≡ []
   pub same : (rows others : List OneRow) → SameBag rows others → SameBag (op rows) (op others)
   pub splits : (rows others : List OneRow) → AreApart meets rows others → SameBag (op (rows ++ others)) (op rows ++ op others)
+
+-- what is told of each key and its rows
+abbrev pub grouped : (OneRow → OneRow) → (OneRow → List OneRow → OneRow) → List OneRow → List OneRow
+grouped key_of told rows = map (λ key. told key (filter (λ row. same_row (key_of row) key) rows)) (one_of_each (map key_of rows))
