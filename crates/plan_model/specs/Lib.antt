@@ -1,5 +1,9 @@
+pub mod Checks
 pub mod Joins
 pub mod Operators
 pub mod Plans
+pub mod Settings
 pub mod Sinks
+pub mod TableNames
 pub mod Tables
+pub mod Widths

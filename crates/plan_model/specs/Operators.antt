@@ -5,6 +5,7 @@ use Rattle.std.specs.Ordering.{is_lt}
 use Rattle.row_core.specs.Bags.{one_of_each}
 use Rattle.row_core.specs.Values.{value_cmp, same_row, int_value, text_of}
 use Rattle.row_core.specs.Exprs.{value_at, truth_of, is_yes}
+pub use Rattle.row_core.specs.Hashing.{key_of}
 use Rattle.row_core.specs.declared.expr.Expr.{Expr}
 use Rattle.row_core.specs.declared.pred.Pred.{Pred}
 use Rattle.row_core.specs.declared.value.Value.{Value}
@@ -84,10 +85,6 @@ agg_value rows Count = int_value (pos (length rows))
 agg_value rows (Sum column) = sum_value (numbers_of (column_of column rows))
 agg_value rows (Min column) = least (column_of column rows)
 agg_value rows (Max column) = greatest (column_of column rows)
-
--- the values of a row in these columns
-abbrev pub key_of : List ℕ → List Value → List Value
-key_of columns row = map (λ column. get_or row column Null) columns
 
 -- the rows with this key
 abbrev pub rows_with : List ℕ → List Value → List (List Value) → List (List Value)

@@ -1,4 +1,6 @@
 ghost use Rattle.std.specs.Prelude.{◌≡◌};
+ghost use Rattle.std.specs.List.{list_all};
+ghost use Rattle.plan_model.specs.Checks.{agg_within};
 
 use crate::Agg;
 use std::marker::Model;
@@ -35,5 +37,12 @@ impl Aggs {
         ensures { result.now ≡ self.now }
     {
         self.items.as_slice()
+    }
+
+    /// Whether the columns that they look at are below the width of a row.
+    pub fn fit(&self, width: u32) -> bool
+        ensures { result ≡ list_all (agg_within width) self.now }
+    {
+        self.items.iter().all(|agg| agg.fits(width))
     }
 }

@@ -1,4 +1,6 @@
 ghost use Rattle.std.specs.Prelude.{◌≡◌};
+ghost use Rattle.std.specs.List.{list_all};
+ghost use Rattle.row_core.specs.Exprs.{columns_within};
 
 use row_core::Expr;
 use std::marker::Model;
@@ -39,5 +41,12 @@ impl Exprs {
         ensures { result.now ≡ self.now }
     {
         self.items.as_slice()
+    }
+
+    /// Whether the columns of each are below the width of a row.
+    pub fn fit(&self, width: u32) -> bool
+        ensures { result ≡ list_all (columns_within width) self.now }
+    {
+        self.items.iter().all(|expr| expr.fits(width))
     }
 }

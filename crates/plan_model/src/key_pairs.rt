@@ -1,4 +1,5 @@
-ghost use Rattle.std.specs.Prelude.{◌≡◌};
+ghost use Rattle.std.specs.Prelude.{◌≡◌, ◌&&◌, nat_lt};
+ghost use Rattle.std.specs.List.{list_all};
 
 use std::marker::Model;
 
@@ -33,5 +34,14 @@ impl KeyPairs {
         ensures { result.now ≡ self.now }
     {
         self.items.as_slice()
+    }
+
+    /// Whether the columns are below the widths of the sides.
+    pub fn fit(&self, left: u32, right: u32) -> bool
+        ensures { result ≡ list_all (λ pair. nat_lt pair.0 left && nat_lt pair.1 right) self.now }
+    {
+        self.items
+            .iter()
+            .all(|pair| pair.0 < left && pair.1 < right)
     }
 }

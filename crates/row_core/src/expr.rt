@@ -1,3 +1,6 @@
+ghost use Rattle.std.specs.Prelude.{◌≡◌};
+ghost use Rattle.row_core.specs.Exprs.{columns_within};
+
 use crate::Value;
 use sqlite_items::Boxed;
 
@@ -11,4 +14,19 @@ pub enum Expr {
     Sub(Boxed<Expr>, Boxed<Expr>),
     Mul(Boxed<Expr>, Boxed<Expr>),
     Concat(Boxed<Expr>, Boxed<Expr>),
+}
+
+impl Expr {
+    /// Whether each column is below the width of a row.
+    pub fn fits(&self, width: u32) -> bool
+        ensures { result ≡ columns_within width self.now }
+    {
+        match self {
+            Expr::Col(column) => *column < width,
+            Expr::Const(_) => true,
+            Expr::Add(a, b) | Expr::Sub(a, b) | Expr::Mul(a, b) | Expr::Concat(a, b) => {
+                a.get().fits(width) && b.get().fits(width)
+            }
+        }
+    }
 }
