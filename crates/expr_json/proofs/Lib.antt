@@ -1,0 +1,10 @@
+pub mod BadPairs
+pub mod DepthLemmas
+pub mod ExprCases
+pub mod ExprLaws
+pub mod ExprSpelling
+pub mod SpellingLaws
+pub mod TestCases
+pub mod TestLaws
+pub mod TestSpelling
+pub mod WordLemmas
