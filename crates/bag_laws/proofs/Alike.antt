@@ -64,3 +64,10 @@ module _ {T U : Type 0} where
       ∙ total-swap (λ t u. total w (f t u)) ts us
       ∙ total-each (λ u. total (λ t. total w (f t u)) ts) (λ u. total w (flat_map (λ t. f t u) ts)) us (λ u. sym (total-flat_map w (λ t. f t u) ts))
       ∙ sym (total-flat_map w (λ u. flat_map (λ t. f t u) ts) us))
+
+-- the two conversions, with the lists left to the facts
+pub by_weights : {xs ys : List Row} → ((w : Row → ℕ) → total w xs ≡ total w ys) → SameBag xs ys
+by_weights {xs} {ys} each = same_of_weights xs ys each
+
+pub weighs : {xs ys : List Row} → SameBag xs ys → (w : Row → ℕ) → total w xs ≡ total w ys
+weighs {xs} {ys} same w = total-same w xs ys same

@@ -1,0 +1,11 @@
+pub mod Steps
+pub mod Touched
+pub mod Zipped
+pub mod Sums
+pub mod Areas
+pub mod Sides
+pub mod Columns
+pub mod Fulls
+pub mod Places
+pub mod Chains
+pub mod Vertices

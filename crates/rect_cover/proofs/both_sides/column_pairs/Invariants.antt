@@ -1,0 +1,10 @@
+use Rattle.std.proofs.Common.{◌≡◌, ℕ, ◌*◌, ◌-◌, ◌<◌}
+use Rattle.std.specs.List.{sum_by}
+use Rattle.rect_cover.specs.Cells.{times, rects_of}
+use Rattle.rect_cover.proofs.both_sides.column_pairs.Given as goal
+
+abbrev pub invariant-loop-producer : goal.invariant-loop-producer
+invariant-loop-producer l = (p q : ℕ) → p < l.producer → q < l.right.producers → sum_by (λ subtask. times (rects_of subtask l.input) p l.cell * times (rects_of subtask l.other) q l.cell) l.subtasks ≡ 1
+
+abbrev pub decreases-loop-producer : goal.decreases-loop-producer
+decreases-loop-producer l = l.left.producers - l.producer

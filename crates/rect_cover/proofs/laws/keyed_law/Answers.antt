@@ -1,0 +1,5 @@
+use Rattle.rect_cover.proofs.Columns.{keyed_columns}
+use Rattle.rect_cover.proofs.laws.keyed_law.Goals as goal
+
+pub returns : goal.returns
+returns c = λ grid subtasks demand meets op rows keyed in_column. keyed_columns meets op keyed grid rows in_column 0 subtasks demand

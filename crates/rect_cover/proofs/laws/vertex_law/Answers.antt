@@ -1,0 +1,5 @@
+use Rattle.rect_cover.proofs.Vertices.{vertex_law}
+use Rattle.rect_cover.proofs.laws.vertex_law.Goals as goal
+
+pub returns : goal.returns
+returns c = λ head links inputs wide subtasks cover placed. vertex_law head links inputs wide subtasks cover placed
