@@ -9,3 +9,6 @@ pub mod Fulls
 pub mod Places
 pub mod Chains
 pub mod Vertices
+pub mod RowWise
+pub mod Aggregates
+pub mod Joins

@@ -12,7 +12,7 @@ use Rattle.rect_cover.specs.Cells.{Reads, rects_of, whole, reading}
 use Rattle.rect_cover.specs.Covers.{EachOnce, HasWhole, Demand, IsCover}
 use Rattle.rect_cover.specs.Heads.{driven, GivesBags}
 use Rattle.rect_cover.specs.Chains.{chained, GivesSame}
-use Rattle.rect_cover.specs.Vertices.{Input, Head, by_row, by_key, by_left, by_right, by_pair, by_both, kind_of, grids_of, shape_of, input_at, head_rows, wholes, readings, IsPlaced, GoesByBags, Link, plain, widened, rest_of, linked}
+use Rattle.rect_cover.specs.Vertices.{Input, Head, by_row, by_key, by_left, by_right, by_pair, by_both, kind_of, grids_of, shape_of, input_at, head_rows, wholes, readings, IsPlaced, GoesByBags, Link, plain, widened, rest_of, linked, LinksByBags}
 use Rattle.rect_cover.proofs.Sides.{row_wise, reads_whole, left_driven, inner_pairs}
 use Rattle.rect_cover.proofs.Columns.{keyed_columns}
 use Rattle.rect_cover.proofs.Fulls.{right_driven, full_columns}
@@ -93,11 +93,11 @@ rest-same [] (y ∷ ys) same = absurd same
 rest-same (x ∷ xs) [] same = absurd same
 rest-same (x ∷ xs) (y ∷ ys) same = same.1
 
-pub linked-same : (links : List Link) (xs ys : List (List Row)) → AllZip SameBag xs ys → AllZip GivesSame (linked links xs) (linked links ys)
-linked-same [] xs ys same = tt
-linked-same (plain f ∷ links) xs ys same = (record { each = λ x. same_refl (f x) }, linked-same links xs ys same)
-linked-same (widened join ∷ links) xs ys same =
-    (record { each = λ r. join.same (input_at xs 0) (input_at ys 0) (input-same xs ys 0 same) r }, linked-same links (rest_of xs) (rest_of ys) (rest-same xs ys same))
+pub linked-same : (links : List Link) (xs ys : List (List Row)) → LinksByBags links → AllZip SameBag xs ys → AllZip GivesSame (linked links xs) (linked links ys)
+linked-same [] xs ys bags same = tt
+linked-same (plain f ∷ links) xs ys bags same = (record { each = λ x. same_refl (f x) }, linked-same links xs ys bags same)
+linked-same (widened step ∷ links) xs ys bags same =
+    (record { each = λ r. bags.0 (input_at xs 0) (input_at ys 0) (input-same xs ys 0 same) r }, linked-same links (rest_of xs) (rest_of ys) bags.1 (rest-same xs ys same))
 
 -- the wide inputs are read whole
 
@@ -126,12 +126,12 @@ readings-whole (input ∷ wide) first t has = by (drop first t) refl has (λ mor
     )
 
 -- what the vertex gives, of whole bags
-pub vertex_law : (head : Head) (links : List Link) (inputs wide : List Input) (ts : List Reads) → IsCover (shape_of head inputs wide) ts → IsPlaced head inputs
+pub vertex_law : (head : Head) (links : List Link) (inputs wide : List Input) (ts : List Reads) → IsCover (shape_of head inputs wide) ts → IsPlaced head inputs → LinksByBags links
     → SameBag (flat_map (λ t. chained (linked links (readings wide (length inputs) t)) (head_rows head (readings inputs 0 t))) ts)
     (chained (linked links (wholes wide)) (head_rows head (wholes inputs)))
-vertex_law head links inputs wide ts cover placed =
+vertex_law head links inputs wide ts cover placed bags =
     chain_law (λ t. linked links (readings wide (length inputs) t)) (linked links (wholes wide)) (λ t. head_rows head (readings inputs 0 t)) (head_rows head (wholes inputs)) ts
-    (λ k d lt. linked-same links (readings wide (length inputs) (get_or ts k d)) (wholes wide)
+    (λ k d lt. linked-same links (readings wide (length inputs) (get_or ts k d)) (wholes wide) bags
     (readings-whole wide (length inputs) (get_or ts k d)
     (subst (λ (n : ℕ). AllZip HasWhole (grids_of wide) (drop n (get_or ts k d))) (length-map inputs (λ (input : Input). input.grid)) (cover.wide k d lt))))
     (head_law head inputs ts cover.demand placed)

@@ -5,11 +5,11 @@ use Rattle.row_core.specs.Bags.{SameBag}
 use Rattle.rect_cover.specs.Cells.{Reads}
 use Rattle.rect_cover.specs.Covers.{IsCover}
 use Rattle.rect_cover.specs.Chains.{chained}
-use Rattle.rect_cover.specs.Vertices.{Head, Link, Input, head_rows, linked, readings, wholes, shape_of, IsPlaced}
+use Rattle.rect_cover.specs.Vertices.{Head, Link, Input, head_rows, linked, readings, wholes, shape_of, IsPlaced, LinksByBags}
 
 -- the sum, over the subtasks of a cover, of head and chain on what they read is head and chain on the whole
 abbrev pub VertexLaw : Type 0
 VertexLaw = (head : Head) (links : List Link) (inputs wide : List Input) (subtasks : List Reads)
-    → IsCover (shape_of head inputs wide) subtasks → IsPlaced head inputs
+    → IsCover (shape_of head inputs wide) subtasks → IsPlaced head inputs → LinksByBags links
     → SameBag (flat_map (λ subtask. chained (linked links (readings wide (length inputs) subtask)) (head_rows head (readings inputs 0 subtask))) subtasks)
     (chained (linked links (wholes wide)) (head_rows head (wholes inputs)))

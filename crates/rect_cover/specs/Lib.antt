@@ -4,3 +4,4 @@ pub mod Chains
 pub mod Heads
 pub mod Vertices
 pub mod Laws
+pub mod Operators

@@ -66,15 +66,16 @@ IsPlaced (by_pair matches pair) (left ∷ (right ∷ [])) = MatchesInColumn matc
 IsPlaced (by_both matches gives lonely) (left ∷ (right ∷ [])) = GivesBags gives × GivesBags lonely × MatchesInColumn matches left.grid left.rows right.grid right.rows
 IsPlaced head inputs = ⊥
 
--- a join that is chained: its build side's rows, and then a row of its probe side
-pub record WideJoin : Type 0 where
-  pub step : List Row → Row → List Row
-  pub same : (rows others : List Row) → SameBag rows others → (row : Row) → SameBag (step rows row) (step others row)
-
--- a node of the chain
+-- a node of the chain: row by row, or a join, of its build side's rows and a row of its probe side
 pub data Link : Type 0 where
   plain : (Row → List Row) → Link
-  widened : WideJoin → Link
+  widened : (List Row → Row → List Row) → Link
+
+-- a chained join gives the same bag for equal bags on its build side
+abbrev pub LinksByBags : List Link → Type 0
+LinksByBags [] = ⊤
+LinksByBags (plain gives ∷ links) = LinksByBags links
+LinksByBags (widened step ∷ links) = ((rows others : List Row) → SameBag rows others → (row : Row) → SameBag (step rows row) (step others row)) × LinksByBags links
 
 abbrev pub rest_of : List (List Row) → List (List Row)
 rest_of [] = []
@@ -84,7 +85,7 @@ rest_of (rows ∷ wide) = wide
 abbrev pub linked : List Link → List (List Row) → List (Row → List Row)
 linked [] wide = []
 linked (plain gives ∷ links) wide = gives ∷ linked links wide
-linked (widened join ∷ links) wide = join.step (input_at wide 0) ∷ linked links (rest_of wide)
+linked (widened step ∷ links) wide = step (input_at wide 0) ∷ linked links (rest_of wide)
 
 -- what the head gives goes by the bags of its inputs
 abbrev pub GoesByBags : Head → Type 0

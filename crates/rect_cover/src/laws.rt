@@ -10,7 +10,7 @@ ghost use Rattle.rect_cover.specs.Covers.{Demand};
 ghost use Rattle.rect_cover.specs.Chains.{chained, GivesSame};
 ghost use Rattle.rect_cover.specs.Heads.{driven, paired, both_driven, GivesBags, MatchesInColumn, MeetsInColumn, StandsAt};
 ghost use Rattle.rect_cover.specs.Laws.{VertexLaw};
-ghost use Rattle.rect_cover.specs.Vertices.{Head, Link, head_rows, linked, GoesByBags};
+ghost use Rattle.rect_cover.specs.Vertices.{Head, Link, head_rows, linked, GoesByBags, LinksByBags};
 
 /// For every cover, of every kind and with any wide inputs, the sum over the subtasks of what the vertex gives on
 /// what they read is what it gives on the whole, where rows that meet stand in one column.
@@ -87,7 +87,7 @@ pub fn vertices_go_by_bags()
     ensures heads { (head : Head) (inputs others : List (List OneRow)) → GoesByBags head → AllZip SameBag inputs others
         → SameBag (head_rows head inputs) (head_rows head others) }
     ensures chains { (links : List Link) (wide others : List (List OneRow)) (rows more : List OneRow)
-        → AllZip SameBag wide others → SameBag rows more → SameBag (chained (linked links wide) rows) (chained (linked links others) more) }
+        → LinksByBags links → AllZip SameBag wide others → SameBag rows more → SameBag (chained (linked links wide) rows) (chained (linked links others) more) }
     ensures cells { (grid : Grid) (rows others : ℕ → ℕ → List OneRow) (rects : List Rect)
         → ((p s : ℕ) → p < grid.producers → s < grid.cells → (times rects p s ≡ 0) ⊎ SameBag (rows p s) (others p s))
         → SameBag (reading grid rows rects) (reading grid others rects) }

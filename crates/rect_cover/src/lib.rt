@@ -11,6 +11,7 @@ mod grid;
 mod grids;
 mod laws;
 mod one_input;
+mod operators;
 mod rect;
 mod rects;
 mod shape;
@@ -25,6 +26,9 @@ pub use grids::Grids;
 pub use laws::{
     column_law, full_law, inner_law, keyed_law, left_driven_law, right_driven_law, row_wise_law,
     vertex_law, vertices_go_by_bags,
+};
+pub use operators::{
+    hash_columns, joins_are_heads, operators_go_by_bags, row_operators, widened_joins,
 };
 pub use rect::Rect;
 pub use rects::Rects;

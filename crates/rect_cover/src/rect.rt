@@ -26,7 +26,7 @@ impl Rect {
     }
 
     /// A later producer, up to the end, before which the column's cells stand in it just as the producer's does.
-    pub fn change_after(self, producer: u32, cell: u32, end: u32) -> u32
+    pub(crate) fn change_after(self, producer: u32, cell: u32, end: u32) -> u32
         requires { producer < end }
         ensures after { producer < result }
         ensures within { result ≤ end }

@@ -198,3 +198,121 @@ fn full_is_whole_columns_once_on_both_sides(rt: HostRuntime) -> Result<(), Fail>
     assert!(rt; agree(rt.alloc(), ShapeKind::Full)?);
     Ok(())
 }
+
+fn rects(alloc: Global, own: &[Rect]) -> Result<Rects, Fail> {
+    Ok(Rects::from_vec(own.to_vec(alloc)?))
+}
+
+/// A subtask of two inputs.
+fn subtask(alloc: Global, lefts: &[Rect], rights: &[Rect]) -> Result<Subtask, Fail> {
+    let mut inputs = Vec::new(alloc);
+    inputs.push(rects(alloc, lefts)?)?;
+    inputs.push(rects(alloc, rights)?)?;
+    Ok(Subtask::from_vec(inputs))
+}
+
+fn grids(alloc: Global, own: &[(u32, u32)]) -> Result<Grids, Fail> {
+    let mut made = Vec::new(alloc);
+    for (producers, cells) in own {
+        made.push(grid(alloc, *producers, *cells))?;
+    }
+    Ok(Grids::from_vec(made))
+}
+
+/// Column 1 of the left side is cut in three, and its right cell goes along each time.
+#[test]
+fn a_skewed_column_may_be_cut_on_the_side_that_drives(rt: HostRuntime) -> Result<(), Fail> {
+    let alloc = rt.alloc();
+    let mut subtasks = Vec::new(alloc);
+    let lefts = [rect(0, 3, 0, 1), rect(0, 1, 1, 2)];
+    subtasks.push(subtask(alloc, &lefts, &[rect(0, 1, 0, 2)])?)?;
+    subtasks.push(subtask(alloc, &[rect(1, 2, 1, 2)], &[rect(0, 1, 1, 2)])?)?;
+    let lefts = [rect(2, 3, 1, 2), rect(0, 3, 2, 3)];
+    subtasks.push(subtask(alloc, &lefts, &[rect(0, 1, 1, 3)])?)?;
+    let assignment = Assignment::from_vec(subtasks);
+    for (kind, is_cover) in [
+        (ShapeKind::LeftDriven, true),
+        (ShapeKind::Inner, true),
+        (ShapeKind::RightDriven, false),
+        (ShapeKind::Full, false),
+    ] {
+        let heads = grids(alloc, &[(3, 3), (1, 3)])?;
+        let wide = grids(alloc, &[])?;
+        let shape = Shape { kind, heads, wide };
+        assert_eq!(rt; covers(&shape, &assignment), is_cover);
+    }
+    Ok(())
+}
+
+/// Two subtasks, each with one of two producers, the first with the whole of a wide input of 2 by 3 cells.
+fn beside(alloc: Global, wide: &[Rect]) -> Result<bool, Fail> {
+    let mut subtasks = Vec::new(alloc);
+    subtasks.push(subtask(alloc, &[rect(0, 1, 0, 1)], &[rect(0, 2, 0, 3)])?)?;
+    subtasks.push(subtask(alloc, &[rect(1, 2, 0, 1)], wide)?)?;
+    let shape = Shape {
+        kind: ShapeKind::RowWise,
+        heads: grids(alloc, &[(2, 1)])?,
+        wide: grids(alloc, &[(2, 3)])?,
+    };
+    Ok(covers(&shape, &Assignment::from_vec(subtasks)))
+}
+
+#[test]
+fn a_wide_input_is_read_whole(rt: HostRuntime) -> Result<(), Fail> {
+    let alloc = rt.alloc();
+    assert!(rt; beside(alloc, &[rect(0, 1, 0, 3), rect(1, 2, 0, 3)])?);
+    assert!(rt; !beside(alloc, &[rect(0, 1, 0, 3)])?);
+    assert!(rt; !beside(alloc, &[rect(0, 2, 0, 3), rect(1, 2, 2, 3)])?);
+    assert!(rt; !beside(alloc, &[rect(0, 2, 0, 4)])?);
+    Ok(())
+}
+
+#[test]
+fn no_subtask_and_no_head_are_no_cover(rt: HostRuntime) -> Result<(), Fail> {
+    let alloc = rt.alloc();
+    let none = Assignment::from_vec(Vec::new(alloc));
+    let mut alone = Vec::new(alloc);
+    alone.push(Subtask::from_vec(Vec::new(alloc)))?;
+    let alone = Assignment::from_vec(alone);
+    for kind in [ShapeKind::RowWise, ShapeKind::Keyed, ShapeKind::Full] {
+        let shape = Shape {
+            kind,
+            heads: grids(alloc, &[])?,
+            wide: grids(alloc, &[])?,
+        };
+        assert!(rt; !covers(&shape, &none));
+        assert_eq!(rt; covers(&shape, &alone), kind == ShapeKind::RowWise);
+    }
+    Ok(())
+}
+
+/// 128 subtasks, each with 512 of 65,536 producers, all 128 cells of these: 8,388,608 cells in all.
+#[test]
+fn a_large_grid_costs_by_its_rects(rt: HostRuntime) -> Result<(), Fail> {
+    let alloc = rt.alloc();
+    let mut rows = Vec::new(alloc);
+    let mut columns = Vec::new(alloc);
+    for number in 0..128 {
+        let own = [rect(number * 512, number * 512 + 512, 0, 128)];
+        let mut inputs = Vec::new(alloc);
+        inputs.push(rects(alloc, &own)?)?;
+        rows.push(Subtask::from_vec(inputs))?;
+        let own = [rect(0, 65_536, number, number + 1)];
+        let mut inputs = Vec::new(alloc);
+        inputs.push(rects(alloc, &own)?)?;
+        columns.push(Subtask::from_vec(inputs))?;
+    }
+    let rows = Assignment::from_vec(rows);
+    let columns = Assignment::from_vec(columns);
+    for (kind, by_rows, by_columns) in [
+        (ShapeKind::RowWise, true, true),
+        (ShapeKind::Keyed, false, true),
+    ] {
+        let heads = grids(alloc, &[(65_536, 128)])?;
+        let wide = grids(alloc, &[])?;
+        let shape = Shape { kind, heads, wide };
+        assert_eq!(rt; covers(&shape, &rows), by_rows);
+        assert_eq!(rt; covers(&shape, &columns), by_columns);
+    }
+    Ok(())
+}
