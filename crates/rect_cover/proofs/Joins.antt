@@ -1,7 +1,7 @@
 -- Joins go by the bags of their sides, and rows that match have equal keys.
-use Rattle.std.proofs.Common.{◌≡◌, ℕ, ◌+◌, ◌%◌, Bool, true, false, List, [], ◌∷◌, ◌++◌, map, length, get_or, refl, sym, subst, ◌∙◌, ap, arith, ◌&&◌, not}
+use Rattle.std.proofs.Common.{◌≡◌, ℕ, Bool, true, false, List, [], ◌∷◌, ◌++◌, map, get_or, refl, subst, arith, ◌&&◌, not}
 use Rattle.std.proofs.lemmas.List.{append-nil}
-use Rattle.std.specs.List.{flat_map, filter, list_all}
+use Rattle.std.specs.List.{flat_map, filter}
 use Rattle.std.specs.Ordering.{is_eq}
 use Rattle.std.specs.declared.cmp.Ordering.{Ordering}
 use Rattle.std.specs.declared.cmp.Ordering.TheVariants.{Less, Equal, Greater}
@@ -18,7 +18,7 @@ use Rattle.plan_model.specs.Operators.{key_of}
 use Rattle.plan_model.specs.Joins.{meets, matches, nulls, or_padded, if_matched, if_unmatched, joined}
 use Rattle.plan_model.specs.declared.join_kind.JoinKind.{JoinKind}
 use Rattle.plan_model.specs.declared.join_kind.JoinKind.TheVariants as kind
-use Rattle.rect_cover.specs.Heads.{driven, paired, GivesBags}
+use Rattle.rect_cover.specs.Heads.{paired, GivesBags}
 use Rattle.rect_cover.specs.Operators.{left_gives, right_gives, join_head, left_columns, right_columns, RepeatsLeft, RepeatsRight}
 use Rattle.rect_cover.specs.Vertices.{GoesByBags, head_rows}
 use Rattle.rect_cover.proofs.Fulls.{paired-flipped}

@@ -1,4 +1,4 @@
-use Rattle.std.proofs.Common.{◌≡◌, ℕ, ◌%◌, ◌∙◌, ap}
+use Rattle.std.proofs.Common.{ℕ, ◌%◌, ◌∙◌, ap}
 use Rattle.row_core.specs.Values.{same_row}
 use Rattle.bag_laws.specs.Rows.{OneRow as Row}
 use Rattle.bag_laws.proofs.Orders.{same_row_is}

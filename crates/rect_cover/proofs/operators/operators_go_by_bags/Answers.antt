@@ -1,15 +1,9 @@
-use Rattle.std.proofs.Common.{List, [], ◌∷◌, ◌++◌, map, subst, ap}
-use Rattle.std.specs.List.{AllZip}
-use Rattle.row_core.specs.Bags.{SameBag}
+use Rattle.std.proofs.Common.{◌++◌, map, ap}
 use Rattle.bag_laws.specs.Rows.{OneRow as Row}
 use Rattle.bag_laws.proofs.Keyed.{each_keyed, grouped_keyed}
 use Rattle.plan_model.specs.Operators.{key_of, agg_value}
-use Rattle.plan_model.specs.Joins.{joined}
-use Rattle.rect_cover.specs.Operators.{join_head}
-use Rattle.rect_cover.specs.Vertices.{head_rows}
 use Rattle.rect_cover.proofs.Aggregates.{aggs-same}
 use Rattle.rect_cover.proofs.Joins.{joins_by_bags, joined-same}
-use Rattle.rect_cover.proofs.Vertices.{head_rows-same}
 use Rattle.rect_cover.proofs.operators.operators_go_by_bags.Goals as goal
 
 pub returns-clause-aggregate : goal.returns-clause-aggregate
