@@ -1,0 +1,76 @@
+use crate::{CommitError, Committed, commit_once};
+use estate::{Estate, Losses, MemEstate, Numbers};
+use row_core::Bytes;
+use std::alloc::Global;
+use std::test::Fail;
+
+fn failing_at(alloc: Global, calls: &[u64]) -> Result<MemEstate, Fail> {
+    let failing = Numbers::from_vec(calls.to_vec(alloc)?);
+    Ok(MemEstate::new(alloc, &failing, &Losses::from_vec(Vec::new(alloc)))?)
+}
+
+// Commits the text "text" of a job under the id "orders".
+fn commit<E: Estate>(alloc: Global, estate: &mut E, job: &[u8]) -> Result<Committed, CommitError> {
+    match (
+        Bytes::from_slice(alloc, b"orders"),
+        Bytes::from_slice(alloc, job),
+        Bytes::from_slice(alloc, b"text"),
+    ) {
+        (Ok(id), Ok(job), Ok(text)) => commit_once(estate, &id, &job, &text),
+        _ => Err(CommitError::NoMemory),
+    }
+}
+
+#[test]
+fn the_first_job_keeps_the_id(rt: HostRuntime) -> Result<(), Fail> {
+    let alloc = rt.alloc();
+    let mut estate = failing_at(alloc, &[])?;
+    assert!(rt; matches!(commit(alloc, &mut estate, b"job"), Ok(Committed::Fresh)));
+    assert!(rt; matches!(commit(alloc, &mut estate, b"job"), Ok(Committed::Before)));
+    let taken = commit(alloc, &mut estate, b"text");
+    assert!(rt;
+        matches!(&taken, Err(CommitError::IdTaken { other }) if other.as_slice() == b"job".as_slice())
+    );
+    let commits = estate.commits()?;
+    assert_eq!(rt; commits.as_slice().len(), 1);
+    assert!(rt; commits.as_slice()[0].text.as_slice() == b"text".as_slice());
+    Ok(())
+}
+
+#[test]
+fn a_fault_of_either_call_is_answered(rt: HostRuntime) -> Result<(), Fail> {
+    let alloc = rt.alloc();
+    for call in 0u64..2 {
+        let mut estate = failing_at(alloc, &[call])?;
+        assert!(rt;
+            matches!(
+                commit(alloc, &mut estate, b"job"),
+                Err(CommitError::SinkFault)
+            )
+        );
+        assert!(rt; matches!(commit(alloc, &mut estate, b"job"), Ok(Committed::Fresh)));
+    }
+    Ok(())
+}
+
+#[test]
+fn a_crash_at_any_moment_leaves_one_commit_after_the_next(rt: HostRuntime) -> Result<(), Fail> {
+    let alloc = rt.alloc();
+    let mut estate = failing_at(alloc, &[])?;
+    assert!(rt; matches!(commit(alloc, &mut estate, b"job"), Ok(Committed::Fresh)));
+    assert_eq!(rt; estate.moments(), 5);
+    for moment in 0u64..5 {
+        let mut left = estate.crash(moment, 1)?;
+        let stood = left.commits()?;
+        assert_eq!(rt; stood.as_slice().len(), usize::from(moment == 4));
+        let next = commit(alloc, &mut left, b"job");
+        assert_eq!(rt;
+            matches!(next, Ok(Committed::Before)),
+            moment == 4,
+            "at {moment}"
+        );
+        let commits = left.commits()?;
+        assert_eq!(rt; commits.as_slice().len(), 1);
+    }
+    Ok(())
+}
