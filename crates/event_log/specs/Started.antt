@@ -1,0 +1,40 @@
+-- A log that is ready for its next block.
+use Rattle.std.specs.Prelude.{◌≡◌, ◌⊎◌, ℕ, zero, ◌≤◌, IsTrue, List, ◌∷◌, ◌++◌, length}
+use Rattle.estate.specs.Holding.{Holding}
+use Rattle.estate.specs.World.{World}
+use Rattle.event_log.specs.Blocks.{after_blocks, read_after}
+
+-- this front of a log is whole blocks of these bodies, whatever gate follows
+pub record IsFront (front : List ℕ) (bodies : List (List ℕ)) : Type 0 where
+  pub reads : (gate : ℕ) (rest : List ℕ) → read_after zero (front ++ gate ∷ rest) ≡ after_blocks bodies (read_after zero (gate ∷ rest))
+
+-- a closed gate stands behind the front
+abbrev pub IsClosedBehind : List ℕ → List ℕ → Type 0
+IsClosedBehind front log = (behind : List ℕ) × (log ≡ front ++ 0 ∷ behind)
+
+-- the log is whole blocks of these bodies, and a closed gate at this place
+pub record IsRead (log : List ℕ) (bodies : List (List ℕ)) (end : ℕ) : Type 0 where
+  pub front : List ℕ
+  pub size : length front ≡ end
+  pub whole : IsFront front bodies
+  pub closed : IsClosedBehind front log
+
+-- each crash now leaves the same whole blocks, and a closed gate at this place
+pub record ClosesAt (end : ℕ) (world : World) : Type 0 where
+  pub front : List ℕ
+  pub bodies : List (List ℕ)
+  pub size : length front ≡ end
+  pub whole : IsFront front bodies
+  pub images : (image : Holding) → world.images world.now image → IsClosedBehind front image.log
+
+-- a log that was started, with its closed gate at this place, where the estate tells what it holds
+abbrev pub IsStarted : ℕ → World → Type 0
+IsStarted end world = IsTrue world.told → ClosesAt end world
+
+-- each crash now leaves the log that a read gives
+pub record IsSynced (world : World) : Type 0 where
+  pub same : (image : Holding) → world.images world.now image → image.log ≡ world.holding.log
+
+-- a fresh log stays fresh, and any other is as it was
+abbrev pub StaysFresh : List ℕ → List ℕ → Type 0
+StaysFresh old new = (new ≡ old) ⊎ ((length old ≤ 1) × (length new ≤ 1))

@@ -1,0 +1,182 @@
+ghost use Rattle.std.specs.Prelude.{◌≡◌, length, Err};
+ghost use Rattle.event_log.specs.Started.{IsStarted};
+
+use crate::{Blocks, Log, LogError, start, view};
+use estate::{Estate, EstateError, Losses, MemEstate, Numbers};
+use row_core::Bytes;
+use std::alloc::Global;
+use std::test::Fail;
+
+// A block of the body 01 00 00 00 01 behind a closed gate, and the next closed gate.
+const STAGED: [u8; 15] = [0, 0, 0, 0, 0, 0, 0, 0, 5, 1, 0, 0, 0, 1, 0];
+
+const BODY: [u8; 5] = [1, 0, 0, 0, 1];
+
+fn failing_at(alloc: Global, calls: &[u64]) -> Result<MemEstate, Fail> {
+    let failing = Numbers::from_vec(calls.to_vec(alloc)?);
+    Ok(MemEstate::new(alloc, &failing, &Losses::from_vec(Vec::new(alloc)))?)
+}
+
+// An estate whose log is these bytes, synced.
+fn with_log(alloc: Global, log: &[u8]) -> Result<MemEstate, Fail> {
+    let mut estate = failing_at(alloc, &[])?;
+    estate.log_write(0, &Bytes::from_slice(alloc, log)?)?;
+    estate.log_sync()?;
+    Ok(estate)
+}
+
+fn whole_log<E: Estate>(estate: &mut E) -> Result<Bytes, EstateError> {
+    let len = estate.log_len()?;
+    estate.log_read(0, len)
+}
+
+fn bodies(alloc: Global, slices: &[&[u8]]) -> Result<Blocks, LogError> {
+    let mut made = Blocks::new(alloc);
+    for slice in slices {
+        made.push(Bytes::from_slice(alloc, slice)?)?;
+    }
+    Ok(made)
+}
+
+// Starts the log, adds these blocks, and gives those that it had.
+fn add<E: Estate>(alloc: Global, estate: &mut E, slices: &[&[u8]]) -> Result<Blocks, LogError> {
+    let more = bodies(alloc, slices)?;
+    let (mut log, blocks) = start(alloc, estate)?;
+    log.flush_all(alloc, estate, more.as_slice())?;
+    Ok(blocks)
+}
+
+fn are(blocks: &Blocks, want: &[&[u8]]) -> bool {
+    let blocks = blocks.as_slice();
+    blocks.len() == want.len()
+        && blocks
+            .iter()
+            .zip(want)
+            .all(|(block, body)| block.as_slice() == *body)
+}
+
+#[test]
+fn a_block_counts_once_its_gate_is_open(rt: HostRuntime) -> Result<(), Fail> {
+    let alloc = rt.alloc();
+    let mut estate = failing_at(alloc, &[])?;
+    add(alloc, &mut estate, &[&BODY])?;
+    // the beginning, and two moments for each of the four calls of a start and the four of a flush
+    assert_eq!(rt; estate.moments(), 17);
+    // the exit of the first sync of the flush
+    let mut left = estate.crash(12, 0)?;
+    let log = whole_log(&mut left)?;
+    assert!(rt; log.as_slice() == STAGED.as_slice());
+    assert!(rt; are(&view(alloc, &mut left)?, &[]));
+    let mut opened = STAGED;
+    opened[0] = 0x4d;
+    let mut estate = with_log(alloc, &opened)?;
+    assert!(rt; are(&view(alloc, &mut estate)?, &[&BODY]));
+    assert!(rt; are(&add(alloc, &mut estate, &[])?, &[&BODY]));
+    // of seven calls two made the log, two viewed it and three started it
+    assert_eq!(rt; estate.moments(), 15);
+    Ok(())
+}
+
+#[test]
+fn a_log_of_one_byte_is_fresh(rt: HostRuntime) -> Result<(), Fail> {
+    let alloc = rt.alloc();
+    let mut estate = with_log(alloc, &[9])?;
+    assert!(rt; are(&view(alloc, &mut estate)?, &[]));
+    assert!(rt; are(&add(alloc, &mut estate, &[])?, &[]));
+    // of seven calls two made the log, one viewed it and four started it
+    assert_eq!(rt; estate.moments(), 15);
+    let log = whole_log(&mut estate)?;
+    assert!(rt; log.as_slice() == [0].as_slice());
+    Ok(())
+}
+
+// Whether the answer is that this block is broken, and that these stand before it.
+fn is_broken<T>(answer: &Result<T, LogError>, number: u64, want: &[&[u8]]) -> bool {
+    match answer {
+        Err(LogError::BadBlock { block, before }) => *block == number && are(before, want),
+        _ => false,
+    }
+}
+
+#[test]
+fn a_broken_block_is_told_with_those_before_it(rt: HostRuntime) -> Result<(), Fail> {
+    let alloc = rt.alloc();
+    let mut estate = with_log(alloc, &[1, 0, 0, 0, 0, 0, 0, 0, 1, 9, 0])?;
+    assert!(rt; are(&view(alloc, &mut estate)?, &[&[9]]));
+    let mut estate = with_log(alloc, &[1, 0, 0, 0, 0, 0, 0, 0, 5])?;
+    assert!(rt; is_broken(&view(alloc, &mut estate), 0, &[]));
+    assert!(rt; is_broken(&start(alloc, &mut estate), 0, &[]));
+    let mut estate = with_log(
+        alloc,
+        &[1, 0, 0, 0, 0, 0, 0, 0, 1, 9, 1, 0, 0, 0, 0, 0, 0, 0, 1, 8],
+    )?;
+    assert!(rt; is_broken(&view(alloc, &mut estate), 1, &[&[9]]));
+    assert!(rt; is_broken(&start(alloc, &mut estate), 1, &[&[9]]));
+    Ok(())
+}
+
+// How many of two blocks a crash leaves. Their gates are written in the calls 6 and 10, and synced in the
+// calls 7 and 11; half of a write of one byte is none.
+fn blocks_left(moment: u64, choice: u32) -> usize {
+    match (moment, choice) {
+        (0..=12, _) | (13..=15, 0 | 3) => 0,
+        (13..=20, _) | (21..=23, 0 | 3) => 1,
+        _ => 2,
+    }
+}
+
+#[test]
+fn a_flush_stopped_at_every_moment(rt: HostRuntime) -> Result<(), Fail> {
+    let alloc = rt.alloc();
+    let all: [&[u8]; 3] = [b"ab", b"", b"next"];
+    let mut estate = failing_at(alloc, &[])?;
+    add(alloc, &mut estate, &all[..2])?;
+    assert_eq!(rt; estate.moments(), 25);
+    for moment in 0u64..25 {
+        for choice in 0..4 {
+            let mut left = estate.crash(moment, choice)?;
+            let had = add(alloc, &mut left, &all[2..])?;
+            let n = blocks_left(moment, choice);
+            assert!(rt; n <= 2 && are(&had, &all[..n]), "at {moment} by {choice}");
+            let now = view(alloc, &mut left)?;
+            assert_eq!(rt; now.as_slice().len(), n + 1);
+        }
+    }
+    Ok(())
+}
+
+#[test]
+fn each_call_failing_in_turn(rt: HostRuntime) -> Result<(), Fail> {
+    let alloc = rt.alloc();
+    let all: [&[u8]; 1] = [&BODY];
+    for call in 0u64..8 {
+        let mut estate = failing_at(alloc, &[call])?;
+        assert!(rt;
+            matches!(add(alloc, &mut estate, &[&BODY]), Err(LogError::Fault)),
+            "at {call}"
+        );
+        assert_eq!(rt; estate.moments(), 2 * call + 3);
+        // a call that failed had no effect, so only a block that was not synced is found
+        let had = add(alloc, &mut estate, &all)?;
+        assert!(rt; are(&had, &all[..usize::from(call == 7)]), "at {call}");
+    }
+    Ok(())
+}
+
+// A fresh log and a body that makes it one byte too long. The contract of a flush alone says what is
+// answered, and that the estate is not called, so no such body is made here.
+fn one_byte_too_long<E: Estate>(
+    log: &mut Log,
+    alloc: Global,
+    estate: &mut E,
+    body: &Bytes,
+) -> Result<(), LogError>
+    requires fresh { log.old.end ≡ 0 }
+    requires started { IsStarted log.old.end (E.world estate.old) }
+    requires size { length body.now ≡ 268435447 }
+    ensures refused { result ≡ Err (LogError.TooLarge 268435457) }
+    ensures untouched { estate.new ≡ estate.old }
+    ensures log { log.new.end ≡ 0 }
+{
+    log.flush(alloc, estate, body)
+}
