@@ -3,9 +3,10 @@ use Rattle.std.proofs.Common.{get_or, ◌≤◌, length-take, length-drop, take-
 use Rattle.std.proofs.lemmas.Bool.{cases_eq}
 use Rattle.std.proofs.lemmas.Bool.Decides.{nat_tests}
 use Rattle.std.proofs.lemmas.List.{append-nil, take_at, drop_at, drop_more}
+use Rattle.std.proofs.lemmas.List.Sums.{sum_by-append}
 use Rattle.std.proofs.lemmas.Nat.{from_be_bytes-to_be_bytes_8}
 use Rattle.std.specs.Int.{w64, to_be_bytes, from_be_bytes}
-use Rattle.event_log.specs.Blocks.{Reading, at_end, after_blocks, length_at, body_at, read_after, reading_of, blocks_of, frame}
+use Rattle.event_log.specs.Blocks.{Reading, at_end, after_blocks, blocks_size, length_at, body_at, read_after, reading_of, blocks_of, frame}
 use Rattle.event_log.specs.Started.{IsFront, IsRead}
 
 read_after-skip : (skip : ℕ) (bytes : List ℕ) → read_after skip bytes ≡ read_after zero (drop skip bytes)
@@ -191,6 +192,10 @@ more_read log after body end later n bodies bodies' lt is_open after_is n_is roo
     ap (λ (l : List ℕ). bodies ++ take n (drop 8 l) ∷ []) (sym after_is) ∙ ap (λ (l : List ℕ). bodies ++ l ∷ []) (sym body_is) ∙ sym bodies_is in
     subst (λ (l : List (List ℕ)). IsFront (take later log) l) same (subst (λ (k : ℕ). IsFront (take k log) (bodies ++ take n (drop 8 (drop (end + 1) log)) ∷ [])) (sym later_is) longer)
 
+pub size_more : (bodies bodies' : List (List ℕ)) (body : List ℕ) (n : ℕ) → bodies' ≡ bodies ++ body ∷ [] → length body ≡ n → blocks_size bodies' ≡ blocks_size bodies + (9 + n)
+size_more bodies bodies' body n is size =
+    ap blocks_size is ∙ sum_by-append (λ b. 9 + length b) bodies (body ∷ []) ∙ omega (arith, size)
+
 -- a gate that is open, and behind it too few bytes
 pub broken_read : (log after : List ℕ) (end : ℕ) (bodies : List (List ℕ)) → end < length log → get_or log end 0 ≢ 0 → after ≡ drop (end + 1) log → length after ≤ 8 + length_at after
     → IsFront (take end log) bodies → read_after zero log ≡ record { bodies = bodies; closed = false }
@@ -210,8 +215,9 @@ read_off log end bodies le (inr none) =
     let made : List (List ℕ) → Reading = λ l. record { bodies = l; closed = false } in
     read_after-nothing log (omega (arith, le, none.0)) ∙ ap made (sym none.1)
 
-pub read_closed : (log : List ℕ) (end : ℕ) (bodies : List (List ℕ)) → end < length log → get_or log end 0 ≡ 0 → IsFront (take end log) bodies → IsRead log bodies end
-read_closed log end bodies lt shut whole = record {
+pub read_closed : (log : List ℕ) (end : ℕ) (bodies : List (List ℕ)) → end < length log → get_or log end 0 ≡ 0 → IsFront (take end log) bodies → end ≡ blocks_size bodies → IsRead log bodies end
+read_closed log end bodies lt shut whole takes = record {
+  takes = takes;
   front = take end log;
   size = omega (arith, length-take end log);
   whole = whole;

@@ -1,5 +1,5 @@
 -- What the bytes of a log say.
-use Rattle.std.specs.Prelude.{◌≡◌, ◌⊎◌, ℕ, zero, suc, ◌+◌, ◌==◌, nat_lt, Bool, true, false, List, [], ◌∷◌, ◌++◌, length, take, drop, Option, Some, None, if◌then◌else◌}
+use Rattle.std.specs.Prelude.{◌≡◌, ◌⊎◌, ℕ, zero, suc, ◌+◌, ◌==◌, nat_lt, Bool, true, false, List, [], ◌∷◌, ◌++◌, length, take, drop, sum_by, Option, Some, None, if◌then◌else◌}
 use Rattle.std.specs.Option.{option_map}
 use Rattle.std.specs.Int.{w64, to_be_bytes, from_be_bytes}
 
@@ -46,6 +46,10 @@ blocks_of log = if (reading_of log).closed then Some (reading_of log).bodies els
 -- a length, and the bytes
 abbrev pub frame : List ℕ → List ℕ
 frame body = to_be_bytes w64 (length body) ++ body
+
+-- how many bytes blocks take, each with its gate and its length
+abbrev pub blocks_size : List (List ℕ) → ℕ
+blocks_size bodies = sum_by (λ body. 9 + length body) bodies
 
 -- the blocks with one more
 abbrev pub with_block : List ℕ → Option (List (List ℕ)) → Option (List (List ℕ))

@@ -2,7 +2,7 @@
 use Rattle.std.specs.Prelude.{◌≡◌, ◌⊎◌, ℕ, zero, ◌≤◌, IsTrue, List, ◌∷◌, ◌++◌, length}
 use Rattle.estate.specs.Holding.{Holding}
 use Rattle.estate.specs.World.{World}
-use Rattle.event_log.specs.Blocks.{after_blocks, read_after}
+use Rattle.event_log.specs.Blocks.{after_blocks, blocks_size, read_after}
 
 -- this front of a log is whole blocks of these bodies, whatever gate follows
 pub record IsFront (front : List ℕ) (bodies : List (List ℕ)) : Type 0 where
@@ -18,6 +18,7 @@ pub record IsRead (log : List ℕ) (bodies : List (List ℕ)) (end : ℕ) : Type
   pub size : length front ≡ end
   pub whole : IsFront front bodies
   pub closed : IsClosedBehind front log
+  pub takes : end ≡ blocks_size bodies
 
 -- each crash now leaves the same whole blocks, and a closed gate at this place
 pub record ClosesAt (end : ℕ) (world : World) : Type 0 where

@@ -118,3 +118,6 @@ returns-clause-answer g c told =
     let found = subst (λ (l : List ℕ). AnswersBytes l (Ok c.in_ok-read_log.field-0)) kept (c.in_ok-read_log.ensures.bytes (told_on _ _ c.log_sync.ensures.leads.time told)) in
     let bytes = bytes_of _ _ _ c.in-Some.is found in
     refused_log _ _ _ (c.as_slice.ensures ∙ bytes.0) bytes.1 bytes.2 c.in-Err.ensures
+
+pub returns-in-Ok-clause-end : goal.returns-in-Ok-clause-end
+returns-in-Ok-clause-end g c = (c.in-Ok.ensures).takes
