@@ -1,14 +1,18 @@
 -- How flushes go together.
-use Rattle.std.proofs.Common.{◌≡◌, ⊎_elim, ℕ, ◌+◌, List, [], ◌∷◌, ◌++◌, take, Option, Some, None, IsTrue, refl, sym, ◌∙◌, ap, subst, arith, append_assoc}
+use Rattle.std.proofs.Common.{◌≡◌, ⊎_elim, ℕ, ◌+◌, List, [], ◌∷◌, ◌++◌, take, Option, Some, None, IsTrue, refl, sym, ◌∙◌, ap, subst, arith, append_assoc, ◌<◌, length, Result, Err}
 use Rattle.std.proofs.lemmas.List.{append-nil}
 use Rattle.estate.specs.Holding.{Holding}
 use Rattle.estate.specs.World.{World, IsWorld}
 use Rattle.estate.specs.Changes.{Step, Same, Leads}
 use Rattle.estate.proofs.Leading.{leads_on, leads_by, leads_start, step_by, step_both}
-use Rattle.event_log.specs.Blocks.{blocks_of, with_block, MayGainBlock}
-use Rattle.event_log.specs.Runs.{with_blocks, GainsUpTo}
+use Rattle.event_log.specs.Blocks.{blocks_of, blocks_size, with_block, MayGainBlock}
+use Rattle.event_log.specs.Answers.{AnswersLength}
+use Rattle.event_log.specs.declared.log.TheConstants.{LOG_LIMIT}
+use Rattle.event_log.specs.declared.log_error.LogError.{LogError}
+use Rattle.event_log.specs.declared.log_error.LogError.TheVariants.{Fault, TooLarge, BadBlock, NoMemory}
+use Rattle.event_log.specs.Runs.{with_blocks, AnswersRun, GainsUpTo}
 use Rattle.event_log.specs.Started.{IsStarted}
-use Rattle.event_log.proofs.Reading.{blocks_of-closed}
+use Rattle.event_log.proofs.Reading.{blocks_of-closed, size_more}
 
 with_none : (blocks : Option (List (List ℕ))) → with_blocks [] blocks ≡ blocks
 with_none None = refl
@@ -64,3 +68,21 @@ module _ (entry middle new : World) (first end count : ℕ) (bodies : List (List
         ∙ ap (λ (l : List (List ℕ)). with_blocks l (blocks_of entry.holding.log)) (sym next);
     started = started_later;
   }
+
+-- a flush that was refused for the log's length is the first of the run that was
+pub run_refused : {T : Type 0} (end count : ℕ) (bodies : List (List ℕ)) (here : ℕ) (body : List ℕ) (error : LogError) (result : Result T LogError) → result ≡ Err error
+    → count < length bodies → take (count + 1) bodies ≡ take count bodies ++ body ∷ [] → here ≡ end + blocks_size (take count bodies) → here < LOG_LIMIT
+    → AnswersLength {T = T} (here + 10 + length body) (Err error) → AnswersRun end bodies result
+run_refused {T} end count bodies here body error result is lt next so_far small answers = subst (λ (r : Result T LogError). AnswersRun end bodies r) (sym is) (by error answers)
+  where
+    by : (e : LogError) → AnswersLength {T = T} (here + 10 + length body) (Err e) → AnswersRun {T = T} end bodies (Err e)
+    by Fault answered = tt
+    by (TooLarge asked) answered = record {
+      before = count;
+      is_there = lt;
+      fits = omega (arith, so_far, small);
+      is = omega (arith, answered.0, so_far, size_more (take count bodies) (take (count + 1) bodies) body (length body) next refl);
+      above = omega (arith, answered.0, answered.1);
+    }
+    by (BadBlock block before) answered = absurd answered
+    by NoMemory answered = tt

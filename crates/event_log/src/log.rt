@@ -23,7 +23,7 @@ pub struct Log {
 impl Log {
     ghost use Rattle.event_log.specs.Started.{IsStarted};
     ghost use Rattle.event_log.specs.Answers.{AnswersLength};
-    ghost use Rattle.event_log.specs.Runs.{GainsUpTo, with_blocks};
+    ghost use Rattle.event_log.specs.Runs.{GainsUpTo, AnswersRun, with_blocks};
 
     /// Adds a block behind the closed gate: it writes the block with the next closed gate, syncs, opens the
     /// gate before it, and syncs. A crash leaves the block whole or not at all, and after `Ok` it leaves it.
@@ -81,6 +81,7 @@ impl Log {
             blocks_of image.log ≡ with_blocks bodies.now (blocks_of (E.world estate.old).holding.log)) }
 
         ensures started { IsErrOf result LogError.Fault ⊎ IsStarted self.new.end (E.world estate.new) }
+        ensures too_large { AnswersRun self.old.end bodies.now result }
         ensures fault { IsErrOf result LogError.Fault → Rose (E.world estate.old).counts.log_faults (E.world estate.new).counts.log_faults }
     {
         for body in bodies {
