@@ -12,7 +12,8 @@ use Rattle.event_log.specs.declared.log_error.LogError.{LogError}
 use Rattle.event_log.specs.declared.log_error.LogError.TheVariants.{Fault, TooLarge, BadBlock, NoMemory}
 use Rattle.event_log.specs.Runs.{with_blocks, AnswersRun, GainsUpTo}
 use Rattle.event_log.specs.Started.{IsStarted}
-use Rattle.event_log.proofs.Reading.{blocks_of-closed, size_more}
+use Rattle.event_log.proofs.Reading.{size_more}
+use Rattle.event_log.proofs.StayingStarted.{started_same}
 
 with_none : (blocks : Option (List (List ℕ))) → with_blocks [] blocks ≡ blocks
 with_none None = refl
@@ -21,15 +22,6 @@ with_none (Some bodies) = ap (λ (l : List (List ℕ)). Some l) (append-nil bodi
 with_more : (more : List (List ℕ)) (body : List ℕ) (blocks : Option (List (List ℕ))) → with_block body (with_blocks more blocks) ≡ with_blocks (more ++ body ∷ []) blocks
 with_more more body None = refl
 with_more more body (Some bodies) = ap (λ (l : List (List ℕ)). Some l) (append_assoc bodies more (body ∷ []))
-
--- what is started has the same blocks in each image
-started_same : (end : ℕ) (world : World) → IsWorld world → IsStarted end world → (image : Holding) → world.images world.now image → blocks_of image.log ≡ blocks_of world.holding.log
-started_same end world lawful started image here =
-    let told = lawful.tells world.now image here in
-    let s = started told in
-    let is = s.images image here in
-    let own = s.images world.holding (lawful.own told) in
-    ap blocks_of is.1 ∙ blocks_of-closed s.front s.bodies s.whole is.0 ∙ sym (ap blocks_of own.1 ∙ blocks_of-closed s.front s.bodies s.whole own.0)
 
 -- so far: what each image since the entry has, what each image now has, and the log is started
 pub record SoFar (entry now : World) (end count : ℕ) (bodies : List (List ℕ)) : Type 0 where

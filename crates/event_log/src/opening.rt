@@ -1,7 +1,8 @@
-ghost use Rattle.std.specs.Prelude.{◌≡◌, ◌⊎◌, ◌≤◌, ◌<◌, length, None, IsTrue, IfOk, IfSome, OnOk, OnErr, IsErrOf};
+ghost use Rattle.std.specs.Prelude.{◌≡◌, ◌⊎◌, ◌≤◌, ◌<◌, length, Some, None, IsTrue, IfOk, IfSome, OnOk, OnErr, IsErrOf};
 ghost use Rattle.estate.specs.declared.estate_error.EstateError.TheVariants as estate_error;
+ghost use Rattle.estate.specs.Holding.{Holding};
 ghost use Rattle.estate.specs.Changes.{Step, Stays, Leads, Rose, HasCause};
-ghost use Rattle.event_log.specs.Blocks.{SameBlocks, blocks_size};
+ghost use Rattle.event_log.specs.Blocks.{SameBlocks, blocks_of, blocks_size};
 ghost use Rattle.event_log.specs.Started.{IsStarted, IsSynced, StaysFresh};
 ghost use Rattle.event_log.specs.Answers.{AnswersLog, AnswersBytes};
 
@@ -38,6 +39,9 @@ pub fn start<E: Estate>(alloc: Global, estate: &mut E) -> Result<(Log, Blocks), 
     ensures answer { IsTrue (E.world estate.old).told → AnswersLog (λ made. made.1) (E.world estate.old).holding.log result }
     ensures started { IfOk result (λ made. IsStarted made.0.end (E.world estate.new)) }
     ensures end { IfOk result (λ made. made.0.end ≡ blocks_size made.1) }
+
+    // once it is started, each image has the blocks that are answered
+    ensures lands { IfOk result (λ made. (image : Holding) → (E.world estate.new).images (E.world estate.new).now image → blocks_of image.log ≡ Some made.1) }
     ensures fault { IsErrOf result LogError.Fault → Rose (E.world estate.old).counts.log_faults (E.world estate.new).counts.log_faults }
 {
     estate.log_sync()?;

@@ -8,6 +8,7 @@ use Rattle.event_log.specs.declared.log_error.LogError.{LogError}
 use Rattle.event_log.specs.declared.log_error.LogError.TheVariants.{Fault}
 use Rattle.event_log.proofs.Reading.{fresh_blocks, read_blocks, read_within}
 use Rattle.event_log.proofs.Starts.{adds_nothing, stays_fresh, then_fresh, synced_stays, read_started, fresh_of, bytes_of, limit_of, refused_log}
+use Rattle.event_log.proofs.StayingStarted.{started_lands}
 use Rattle.event_log.proofs.opening.start.Goals as goal
 
 refused : {T L : Type 0} (error : EstateError) (result : Result T LogError) → result ≡ Err (log_error error) → (error ≡ estate.NoMemory → L) → IsErrOf result Fault ⊎ L
@@ -121,3 +122,11 @@ returns-clause-answer g c told =
 
 pub returns-in-Ok-clause-end : goal.returns-in-Ok-clause-end
 returns-in-Ok-clause-end g c = (c.in-Ok.ensures).takes
+
+pub returns-in-None-clause-lands : goal.returns-in-None-clause-lands
+returns-in-None-clause-lands g c =
+    started_lands 0 _ _ _ (g.met.E.Estate.lawful c.close_fresh.new.estate) (returns-in-None-clause-adds_nothing g c) (λ told. (returns-in-None-clause-answer g c told).0) c.in_ok-close_fresh-in-None.ensures.started
+
+pub returns-in-Ok-clause-lands : goal.returns-in-Ok-clause-lands
+returns-in-Ok-clause-lands g c =
+    started_lands _ _ _ _ (g.met.E.Estate.lawful c.read_log.new.estate) (returns-in-Ok-clause-adds_nothing g c) (λ told. (returns-in-Ok-clause-answer g c told).0) (returns-in-Ok-clause-started g c)
