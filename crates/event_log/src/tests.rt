@@ -1,6 +1,3 @@
-ghost use Rattle.std.specs.Prelude.{◌≡◌, length, Err};
-ghost use Rattle.event_log.specs.Started.{IsStarted};
-
 use crate::{Blocks, Log, LogError, start, view};
 use estate::{Estate, EstateError, Losses, MemEstate, Numbers};
 use row_core::Bytes;
@@ -163,20 +160,16 @@ fn each_call_failing_in_turn(rt: HostRuntime) -> Result<(), Fail> {
     Ok(())
 }
 
-// A fresh log and a body that makes it one byte too long. The contract of a flush alone says what is
-// answered, and that the estate is not called, so no such body is made here.
-fn one_byte_too_long<E: Estate>(
-    log: &mut Log,
-    alloc: Global,
-    estate: &mut E,
-    body: &Bytes,
-) -> Result<(), LogError>
-    requires fresh { log.old.end ≡ 0 }
-    requires started { IsStarted log.old.end (E.world estate.old) }
-    requires size { length body.now ≡ 268435447 }
-    ensures refused { result ≡ Err (LogError.TooLarge 268435457) }
-    ensures untouched { estate.new ≡ estate.old }
-    ensures log { log.new.end ≡ 0 }
-{
-    log.flush(alloc, estate, body)
+#[test]
+fn a_body_one_byte_too_long_is_refused_before_any_call(rt: HostRuntime) -> Result<(), Fail> {
+    let alloc = rt.alloc();
+    let mut estate = failing_at(alloc, &[])?;
+    let (mut log, _blocks) = start(alloc, &mut estate)?;
+    let moments = estate.moments();
+    let body = Bytes::from_vec(vec![in alloc; 0u8; 268_435_447]?);
+    let answer = log.flush(alloc, &mut estate, &body);
+    assert!(rt; matches!(answer, Err(LogError::TooLarge { asked: 268_435_457 })));
+    assert_eq!(rt; estate.moments(), moments);
+    assert_eq!(rt; log.end, 0);
+    Ok(())
 }
