@@ -25,6 +25,7 @@ mod setting;
 mod setting_values;
 mod settings;
 mod ship;
+mod side;
 mod table_names;
 mod tables;
 #[cfg(test)]
@@ -51,6 +52,7 @@ pub use schema::Schema;
 pub use setting::{SETTINGS, Setting};
 pub use settings::Settings;
 pub use ship::Ship;
+pub use side::Side;
 pub use table_names::TableNames;
 pub use tables::tables_of;
-pub use widths::Widths;
+pub use widths::{Widths, width_at, widths_at};

@@ -1,0 +1,6 @@
+/// One of the two inputs of a join.
+#[derive(Clone, Copy, Debug, PartialEq, Eq)]
+pub enum Side {
+    Left,
+    Right,
+}
