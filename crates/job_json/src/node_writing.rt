@@ -1,0 +1,296 @@
+//! Nodes as JSON values.
+ghost use Rattle.std.specs.Prelude.{◌≡◌, ◌<◌, [], length, map, All, IfOk, IsTrue};
+ghost use Rattle.std.specs.List.{list_all};
+ghost use Rattle.serde_json.specs.View.{view, members_view};
+ghost use Rattle.expr_json.specs.Ranges.{has_utf8_texts, test_has_utf8_texts};
+ghost use Rattle.plan_model.specs.declared.op.Op.TheVariants as Op;
+ghost use Rattle.job_json.specs.Members.{is_name};
+ghost use Rattle.job_json.specs.Spelling.{list_value, input_value, op_members, with_ship, node_value};
+ghost use Rattle.job_json.specs.WellFormed.{is_named, has_utf8, IsOpForm, IsNodeForm};
+
+use crate::part_writing::{
+    join_kind_text, write_aggs, write_columns, write_exprs, write_numbers, write_pairs,
+    write_separator,
+};
+use crate::texts::write_name;
+use expr_json::write_test;
+use plan_model::{Aggs, Exprs, JoinKind, KeyPairs, Node, Op, Schema};
+use row_core::{Bytes, Columns, NoMemory, Pred};
+use serde_json::{Map, Value, put};
+use std::alloc::Global;
+
+type Members = Map<String, Value>;
+
+/// The nodes of a plan.
+pub fn write_nodes(alloc: Global, nodes: &[Node]) -> Result<Value, NoMemory>
+    requires { All IsNodeForm nodes.now }
+    ensures { IfOk result (λ value. view value ≡ list_value (map node_value nodes.now)) }
+{
+    let mut values = Vec::new(alloc);
+    for node in nodes {
+        values.push(write_node(alloc, node)?)?;
+    }
+    Ok(Value::Array(values))
+}
+
+fn write_node(alloc: Global, node: &Node) -> Result<Value, NoMemory>
+    requires { IsNodeForm node.now }
+    ensures { IfOk result (λ value. view value ≡ node_value node.now) }
+{
+    let members = write_op(alloc, &node.op, &node.inputs)?;
+    let members = add_ship(alloc, node.rebalance, members)?;
+    Ok(Value::Object(members))
+}
+
+fn add_ship(alloc: Global, rebalance: bool, mut members: Members) -> Result<Members, NoMemory>
+    ensures { IfOk result (λ added. members_view added.entries
+        ≡ with_ship rebalance (members_view members.entries)) }
+{
+    if rebalance {
+        put(
+            &mut members,
+            alloc,
+            "ship",
+            Value::try_from_str(alloc, "rebalance")?,
+        )?;
+    }
+    Ok(members)
+}
+
+fn write_op(alloc: Global, op: &Op, inputs: &Columns) -> Result<Members, NoMemory>
+    requires form { IsOpForm op.now inputs.now }
+    requires texts { IsTrue (has_utf8 op.now) }
+    ensures { IfOk result (λ members. members_view members.entries ≡ op_members op.now inputs.now) }
+{
+    match op {
+        Op::Source { table, columns } => write_source(alloc, table, columns),
+        Op::Filter { test } => write_filter(alloc, test, inputs),
+        Op::Project { exprs } => write_project(alloc, exprs, inputs),
+        Op::Explode { column, separator } => write_explode(alloc, *column, *separator, inputs),
+        Op::Union => write_union(alloc, inputs),
+        Op::Aggregate { keys, aggs } => write_aggregate(alloc, keys, aggs, inputs),
+        Op::Distinct => write_distinct(alloc, inputs),
+        Op::Join { kind, keys } => write_join(alloc, *kind, keys, inputs),
+        Op::Sink { name } => write_sink(alloc, name, inputs),
+    }
+}
+
+// An input of a node, by its place.
+fn write_input(inputs: &Columns, place: usize) -> Value
+    requires { place < length inputs.now }
+    ensures { view result ≡ input_value inputs.now place }
+{
+    Value::from(inputs.as_slice()[place])
+}
+
+fn write_source(alloc: Global, table: &Bytes, columns: &Schema) -> Result<Members, NoMemory>
+    requires table { IsTrue (is_name table.now) }
+    requires columns { IsTrue (list_all is_named columns.now) }
+    ensures { IfOk result (λ members. members_view members.entries
+        ≡ op_members (Op.Source table.now columns.now) []) }
+{
+    let mut members = Map::new(alloc);
+    put(
+        &mut members,
+        alloc,
+        "columns",
+        write_columns(alloc, columns.as_slice())?,
+    )?;
+    put(
+        &mut members,
+        alloc,
+        "op",
+        Value::try_from_str(alloc, "source")?,
+    )?;
+    put(&mut members, alloc, "table", write_name(alloc, table)?)?;
+    Ok(members)
+}
+
+fn write_filter(alloc: Global, test: &Pred, inputs: &Columns) -> Result<Members, NoMemory>
+    requires texts { IsTrue (test_has_utf8_texts test.now) }
+    requires inputs { 0 < length inputs.now }
+    ensures { IfOk result (λ members. members_view members.entries
+        ≡ op_members (Op.Filter test.now) inputs.now) }
+{
+    let mut members = Map::new(alloc);
+    put(&mut members, alloc, "input", write_input(inputs, 0))?;
+    put(
+        &mut members,
+        alloc,
+        "op",
+        Value::try_from_str(alloc, "filter")?,
+    )?;
+    put(&mut members, alloc, "where", write_test(alloc, test)?)?;
+    Ok(members)
+}
+
+fn write_project(alloc: Global, exprs: &Exprs, inputs: &Columns) -> Result<Members, NoMemory>
+    requires texts { IsTrue (list_all has_utf8_texts exprs.now) }
+    requires inputs { 0 < length inputs.now }
+    ensures { IfOk result (λ members. members_view members.entries
+        ≡ op_members (Op.Project exprs.now) inputs.now) }
+{
+    let mut members = Map::new(alloc);
+    put(
+        &mut members,
+        alloc,
+        "exprs",
+        write_exprs(alloc, exprs.as_slice())?,
+    )?;
+    put(&mut members, alloc, "input", write_input(inputs, 0))?;
+    put(
+        &mut members,
+        alloc,
+        "op",
+        Value::try_from_str(alloc, "project")?,
+    )?;
+    Ok(members)
+}
+
+fn write_explode(
+    alloc: Global,
+    column: u32,
+    separator: u8,
+    inputs: &Columns,
+) -> Result<Members, NoMemory>
+    requires separator { separator < 128 }
+    requires inputs { 0 < length inputs.now }
+    ensures { IfOk result (λ members. members_view members.entries
+        ≡ op_members (Op.Explode column separator) inputs.now) }
+{
+    let mut members = Map::new(alloc);
+    put(&mut members, alloc, "column", Value::from(column))?;
+    put(&mut members, alloc, "input", write_input(inputs, 0))?;
+    put(
+        &mut members,
+        alloc,
+        "op",
+        Value::try_from_str(alloc, "explode")?,
+    )?;
+    put(
+        &mut members,
+        alloc,
+        "separator",
+        write_separator(alloc, separator)?,
+    )?;
+    Ok(members)
+}
+
+fn write_union(alloc: Global, inputs: &Columns) -> Result<Members, NoMemory>
+    ensures { IfOk result (λ members. members_view members.entries ≡ op_members Op.Union inputs.now) }
+{
+    let mut members = Map::new(alloc);
+    put(
+        &mut members,
+        alloc,
+        "inputs",
+        write_numbers(alloc, inputs.as_slice())?,
+    )?;
+    put(
+        &mut members,
+        alloc,
+        "op",
+        Value::try_from_str(alloc, "union")?,
+    )?;
+    Ok(members)
+}
+
+fn write_aggregate(
+    alloc: Global,
+    keys: &Columns,
+    aggs: &Aggs,
+    inputs: &Columns,
+) -> Result<Members, NoMemory>
+    requires inputs { 0 < length inputs.now }
+    ensures { IfOk result (λ members. members_view members.entries
+        ≡ op_members (Op.Aggregate keys.now aggs.now) inputs.now) }
+{
+    let mut members = Map::new(alloc);
+    put(
+        &mut members,
+        alloc,
+        "aggs",
+        write_aggs(alloc, aggs.as_slice())?,
+    )?;
+    put(&mut members, alloc, "input", write_input(inputs, 0))?;
+    put(
+        &mut members,
+        alloc,
+        "keys",
+        write_numbers(alloc, keys.as_slice())?,
+    )?;
+    put(
+        &mut members,
+        alloc,
+        "op",
+        Value::try_from_str(alloc, "aggregate")?,
+    )?;
+    Ok(members)
+}
+
+fn write_distinct(alloc: Global, inputs: &Columns) -> Result<Members, NoMemory>
+    requires { 0 < length inputs.now }
+    ensures { IfOk result (λ members. members_view members.entries ≡ op_members Op.Distinct inputs.now) }
+{
+    let mut members = Map::new(alloc);
+    put(&mut members, alloc, "input", write_input(inputs, 0))?;
+    put(
+        &mut members,
+        alloc,
+        "op",
+        Value::try_from_str(alloc, "distinct")?,
+    )?;
+    Ok(members)
+}
+
+fn write_join(
+    alloc: Global,
+    kind: JoinKind,
+    keys: &KeyPairs,
+    inputs: &Columns,
+) -> Result<Members, NoMemory>
+    requires { 1 < length inputs.now }
+    ensures { IfOk result (λ members. members_view members.entries
+        ≡ op_members (Op.Join kind keys.now) inputs.now) }
+{
+    let mut members = Map::new(alloc);
+    put(
+        &mut members,
+        alloc,
+        "keys",
+        write_pairs(alloc, keys.as_slice())?,
+    )?;
+    put(
+        &mut members,
+        alloc,
+        "kind",
+        Value::try_from_str(alloc, join_kind_text(kind))?,
+    )?;
+    put(&mut members, alloc, "left", write_input(inputs, 0))?;
+    put(
+        &mut members,
+        alloc,
+        "op",
+        Value::try_from_str(alloc, "join")?,
+    )?;
+    put(&mut members, alloc, "right", write_input(inputs, 1))?;
+    Ok(members)
+}
+
+fn write_sink(alloc: Global, name: &Bytes, inputs: &Columns) -> Result<Members, NoMemory>
+    requires name { IsTrue (is_name name.now) }
+    requires inputs { 0 < length inputs.now }
+    ensures { IfOk result (λ members. members_view members.entries
+        ≡ op_members (Op.Sink name.now) inputs.now) }
+{
+    let mut members = Map::new(alloc);
+    put(&mut members, alloc, "input", write_input(inputs, 0))?;
+    put(&mut members, alloc, "name", write_name(alloc, name)?)?;
+    put(
+        &mut members,
+        alloc,
+        "op",
+        Value::try_from_str(alloc, "sink")?,
+    )?;
+    Ok(members)
+}
