@@ -1,0 +1,64 @@
+-- Rows match where no value of the key is Null and their keys are one row.
+use Rattle.std.proofs.Common.{◌≡◌, ℕ, Bool, true, false, List, [], ◌∷◌, get_or, refl, sym, ◌∙◌, ap}
+use Rattle.std.specs.List.{list_any}
+use Rattle.std.specs.Ordering.{is_eq, ordering_then, ordering_reverse}
+use Rattle.std.specs.Prelude.{not, ◌&&◌, ◌||◌}
+use Rattle.std.specs.declared.cmp.Ordering.{Ordering}
+use Rattle.std.specs.declared.cmp.Ordering.TheVariants.{Less, Equal, Greater}
+use Rattle.row_core.specs.Exprs.{is_null}
+use Rattle.row_core.specs.Values.{value_cmp, row_cmp, same_row, same_value}
+use Rattle.row_core.specs.declared.value.Value.{Value}
+use Rattle.row_core.specs.declared.value.Value.TheVariants.{Null, Int, Text}
+use Rattle.bag_laws.proofs.Orders.{value_total}
+use Rattle.bag_laws.specs.Rows.{OneRow as Row}
+use Rattle.plan_model.specs.Joins.{matches, meets}
+use Rattle.op_join.specs.Sides.{own_key, other_key, turned}
+
+same_cons : (a b : Value) (xs ys : List Value) → same_row (a ∷ xs) (b ∷ ys) ≡ (same_value a b && same_row xs ys)
+same_cons a b xs ys = by (value_cmp a b) (row_cmp xs ys)
+  where
+    by : (r s : Ordering) → is_eq (ordering_then r s) ≡ (is_eq r && is_eq s)
+    by Less s = refl
+    by Equal s = refl
+    by Greater s = refl
+
+regroup : (n e m s : Bool) → ((not n && e) && (not m && s)) ≡ (not (n || m) && (e && s))
+regroup true e m s = refl
+regroup false true m s = refl
+regroup false false true s = refl
+regroup false false false s = refl
+
+pub matches_is : (keys : List (ℕ × ℕ)) (row other : Row) → matches keys row other ≡ (not (list_any is_null (own_key keys row)) && same_row (own_key keys row) (other_key keys other))
+matches_is [] row other = refl
+matches_is (pair ∷ keys) row other =
+    let a = get_or row pair.0 Null in
+    let b = get_or other pair.1 Null in
+    ap (λ (rest : Bool). meets a b && rest) (matches_is keys row other)
+    ∙ regroup (is_null a) (same_value a b) (list_any is_null (own_key keys row)) (same_row (own_key keys row) (other_key keys other))
+    ∙ ap (λ (same : Bool). not (is_null a || list_any is_null (own_key keys row)) && same) (sym (same_cons a b (own_key keys row) (other_key keys other)))
+
+-- ---- the other way round
+
+same_swapped : (a b : Value) → same_value a b ≡ same_value b a
+same_swapped a b = ap is_eq (value_total.antisymm a b) ∙ by (value_cmp b a)
+  where
+    by : (r : Ordering) → is_eq (ordering_reverse r) ≡ is_eq r
+    by Less = refl
+    by Equal = refl
+    by Greater = refl
+
+meets_swapped : (a b : Value) → meets a b ≡ meets b a
+meets_swapped Null Null = refl
+meets_swapped Null (Int n) = refl
+meets_swapped Null (Text t) = refl
+meets_swapped (Int m) Null = refl
+meets_swapped (Text s) Null = refl
+meets_swapped (Int m) (Int n) = same_swapped (Int m) (Int n)
+meets_swapped (Int m) (Text t) = same_swapped (Int m) (Text t)
+meets_swapped (Text s) (Int n) = same_swapped (Text s) (Int n)
+meets_swapped (Text s) (Text t) = same_swapped (Text s) (Text t)
+
+pub matches_turned : (keys : List (ℕ × ℕ)) (row other : Row) → matches (turned keys) row other ≡ matches keys other row
+matches_turned [] row other = refl
+matches_turned (pair ∷ keys) row other =
+    λ i. meets_swapped (get_or row pair.1 Null) (get_or other pair.0 Null) i && matches_turned keys row other i

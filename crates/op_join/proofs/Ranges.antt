@@ -1,0 +1,141 @@
+-- The matches of a row stand together where the other side is sorted by its keys.
+use Rattle.std.proofs.Common.{◌≡◌, ℕ, ◌+◌, ◌<◌, ◌≤◌, Bool, true, false, Bor, All, List, [], ◌∷◌, ◌++◌, length, map, take, drop, get_or, refl, sym, subst, ◌∙◌, ap, arith}
+use Rattle.std.proofs.lemmas.List.{take-append-drop, append-nil, map-append, get_or-map, length-map, get_or-take, get_or-drop, length-take, length-drop, drop-map}
+use Rattle.std.proofs.lemmas.List.Elements.{filter-append, All-head, All-tail}
+use Rattle.std.proofs.lemmas.List.Sorted.{sorted_far}
+use Rattle.std.specs.List.{filter, list_any, AllWithin}
+use Rattle.std.specs.List.Sorted.{IsSorted, IsSortedBy, IsPartitionedBy}
+use Rattle.std.specs.Prelude.{cond, not, ◌&&◌}
+use Rattle.row_core.specs.Exprs.{is_null}
+use Rattle.row_core.specs.Values.{row_cmp, same_row}
+use Rattle.bag_laws.proofs.Counts.{same-swapped}
+use Rattle.bag_laws.proofs.Orders.{rows_strict}
+use Rattle.bag_laws.proofs.Sorted.{false_from}
+use Rattle.bag_laws.specs.Rows.{OneRow as Row, row_less}
+use Rattle.plan_model.specs.Joins.{matches}
+use Rattle.op_join.specs.Sides.{own_key, other_key}
+use Rattle.op_join.proofs.Alike.{matches_is}
+
+pub sorted_map : {X : Type 0} (less : X → X → Bool) {Y : Type 0} (f : Y → X) (ys : List Y) → IsSortedBy (λ a b. less (f a) (f b)) ys → IsSortedBy less (map f ys)
+sorted_map less f [] sorted k d low high = absurd (omega arith)
+sorted_map less f (y ∷ ys) sorted k d low high =
+    let all = y ∷ ys in
+    let size = length-map all f in
+    let here : k + 1 < length all = omega (arith, size) in
+    rw (get_or-map f all (k + 1) y d here, get_or-map f all k y d (omega arith)) (sorted k y low here)
+
+pub sorted_drop : {X : Type 0} (less : X → X → Bool) {Y : Type 0} (f : Y → X) (n : ℕ) (ys : List Y) → n ≤ length ys → IsSortedBy less (map f ys) → IsSortedBy less (map f (drop n ys))
+sorted_drop {X} less f n ys le sorted k d low high =
+    let size = length-map (drop n ys) f in
+    let left = length-drop n ys in
+    let all = length-map ys f in
+    let up : n + (k + 1) ≡ n + k + 1 = omega arith in
+    subst (λ (zs : List X). less (get_or zs (k + 1) d) (get_or zs k d) ≡ false) (drop-map f n ys)
+    ((λ i. less ((get_or-drop n (map f ys) (k + 1) d ∙ ap (λ (m : ℕ). get_or (map f ys) m d) up) i) (get_or-drop n (map f ys) k d i)) ∙ sorted (n + k) d (omega arith) (omega arith))
+
+-- ---- where a search divides sorted items
+
+module _ {X : Type 0} (f : X → Row) (xs : List X) (sorted : IsSorted row_cmp (map f xs)) where
+  far : (i j : ℕ) (d : X) → i ≤ j → j < length xs → row_less (f (get_or xs j d)) (f (get_or xs i d)) ≡ false
+  far i j d le lt =
+      let size = length-map xs f in
+      let at = get_or-map f xs j d (f d) lt in
+      let at' = get_or-map f xs i d (f d) (omega arith) in
+      sym (λ t. row_less (at t) (at' t)) ∙ sorted_far row_less rows_strict.order (map f xs) sorted i j (f d) le (omega (arith, size))
+
+  pub less_first : (k : Row) → IsPartitionedBy (λ y. row_less (f y) k) xs
+  less_first k i j d le lt holds =
+      true_from (row_less (f (get_or xs i d)) k) (λ no.
+      let bad : row_less (f (get_or xs j d)) k ≡ false = rows_strict.order.chain (f (get_or xs j d)) (f (get_or xs i d)) k (far i j d le lt) no in cc)
+    where
+      true_from : (b : Bool) → (b ≡ false → ⊥) → b ≡ true
+      true_from true g = refl
+      true_from false g = absurd (g refl)
+
+  pub reached_first : (k : Row) → IsPartitionedBy (λ y. not (row_less k (f y))) xs
+  reached_first k i j d le lt holds =
+      ap not (rows_strict.order.chain k (f (get_or xs j d)) (f (get_or xs i d)) (false_of (row_less k (f (get_or xs j d))) holds) (far i j d le lt))
+    where
+      false_of : (b : Bool) → not b ≡ true → b ≡ false
+      false_of true e = cc
+      false_of false e = refl
+
+-- what a search says, as facts of the two parts
+pub front_part : {X : Type 0} (P : X → Type 0) (xs : List X) (n : ℕ) → n ≤ length xs → AllWithin P xs 0 n → All P (take n xs)
+front_part P xs n le within k d lt =
+    let size = length-take n xs in
+    let below : k < n = omega arith in
+    subst P (sym (get_or-take n xs k d below)) (within k d (omega arith) below)
+
+pub back_part : {X : Type 0} (P : X → Type 0) (xs : List X) (n : ℕ) → n ≤ length xs → AllWithin P xs n (length xs) → All P (drop n xs)
+back_part P xs n le within k d lt =
+    let size = length-drop n xs in
+    subst P (sym (get_or-drop n xs k d)) (within (n + k) d (omega arith) (omega arith))
+
+-- ---- the range that was found
+
+none_of : (p : Row → Bool) (xs : List (Bor Row)) → All (λ x. p x.now ≡ false) xs → filter p (map (λ x. x.now) xs) ≡ []
+none_of p [] all = refl
+none_of p (x ∷ xs) all =
+    ap (λ (b : Bool). cond b (x.now ∷ filter p (map (λ x. x.now) xs)) (filter p (map (λ x. x.now) xs))) (All-head (λ x. p x.now ≡ false) x xs all)
+    ∙ none_of p xs (All-tail (λ x. p x.now ≡ false) x xs all)
+
+all_of : (p : Row → Bool) (xs : List (Bor Row)) → All (λ x. p x.now ≡ true) xs → filter p (map (λ x. x.now) xs) ≡ map (λ x. x.now) xs
+all_of p [] all = refl
+all_of p (x ∷ xs) all =
+    ap (λ (b : Bool). cond b (x.now ∷ filter p (map (λ x. x.now) xs)) (filter p (map (λ x. x.now) xs))) (All-head (λ x. p x.now ≡ true) x xs all)
+    ∙ ap (λ (l : List Row). x.now ∷ l) (all_of p xs (All-tail (λ x. p x.now ≡ true) x xs all))
+
+differ : (a b : Row) → row_less a b ≡ true → same_row a b ≡ false
+differ a b less = false_from row_less same_row rows_strict (same_row a b) (λ tie. let bad = rows_strict.tied a b tie in cc)
+
+module _ (keys : List (ℕ × ℕ)) (row : Row) (sorted : List (Bor Row)) (s n : ℕ) where
+  abbrev k : Row
+  k = own_key keys row
+
+  abbrev of : Bor Row → Row
+  of other = other_key keys other.now
+
+  abbrev rest : List (Bor Row)
+  rest = drop s sorted
+
+  unequal : (other : Row) → same_row k (other_key keys other) ≡ false → matches keys row other ≡ false
+  unequal other apart = matches_is keys row other ∙ by (not (list_any is_null k)) (same_row k (other_key keys other)) apart
+    where
+      by : (b c : Bool) → c ≡ false → (b && c) ≡ false
+      by true c e = e
+      by false c e = refl
+
+  equal : list_any is_null k ≡ false → (other : Row) → k ≡ other_key keys other → matches keys row other ≡ true
+  equal full other one = matches_is keys row other ∙ (λ i. not (full i) && same_row k (sym one i)) ∙ rows_strict.itself k
+
+  pub with_null : list_any is_null k ≡ true → filter (matches keys row) (map (λ other. other.now) sorted) ≡ []
+  with_null null = none_of (matches keys row) sorted (λ i d lt.
+      let other = get_or sorted i d in
+      matches_is keys row other.now ∙ ap (λ (b : Bool). not b && same_row k (of other)) null)
+
+  pub found : list_any is_null k ≡ false
+      → All (λ other. row_less (of other) k ≡ true) (take s sorted) → All (λ other. row_less (of other) k ≡ false) (drop s sorted)
+      → All (λ other. row_less k (of other) ≡ false) (take n rest) → All (λ other. row_less k (of other) ≡ true) (drop n rest)
+      → map (λ other. other.now) (take n rest) ≡ filter (matches keys row) (map (λ other. other.now) sorted)
+  found full less reached same greater =
+      let p = matches keys row in
+      let now = λ (other : Bor Row). other.now in
+      let front : filter p (map now (take s sorted)) ≡ [] =
+      none_of p (take s sorted) (λ i d lt. let other = get_or (take s sorted) i d in unequal other.now (same-swapped k (of other) ∙ differ (of other) k (less i d lt))) in
+      let middle : filter p (map now (take n rest)) ≡ map now (take n rest) =
+      all_of p (take n rest) (λ i d lt.
+      let other = get_or (take n rest) i d in
+      let size = length-take n rest in
+      let behind : row_less (of other) k ≡ false =
+      subst (λ (one : Bor Row). row_less (of one) k ≡ false) (sym (get_or-take n rest i d (omega arith))) (reached i d (omega arith)) in
+      equal full other.now (rows_strict.apart k (of other) (same i d lt) behind)) in
+      let back : filter p (map now (drop n rest)) ≡ [] =
+      none_of p (drop n rest) (λ i d lt. let other = get_or (drop n rest) i d in unequal other.now (differ k (of other) (greater i d lt))) in
+      sym (
+      ap (λ (l : List (Bor Row)). filter p (map now l)) (sym (take-append-drop s sorted))
+      ∙ ap (filter p) (map-append now (take s sorted) rest) ∙ filter-append p (map now (take s sorted)) (map now rest)
+      ∙ ap (λ (l : List Row). l ++ filter p (map now rest)) front
+      ∙ ap (λ (l : List (Bor Row)). filter p (map now l)) (sym (take-append-drop n rest))
+      ∙ ap (filter p) (map-append now (take n rest) (drop n rest)) ∙ filter-append p (map now (take n rest)) (map now (drop n rest))
+      ∙ (λ i. middle i ++ back i) ∙ append-nil (map now (take n rest)))

@@ -1,0 +1,168 @@
+ghost use Rattle.std.specs.Prelude.{◌<◌};
+
+use crate::join;
+use plan_model::{JoinKind, KeyPairs, Widths};
+use row_core::{Bytes, NoMemory, Row, Rows, Value};
+use std::alloc::Global;
+use std::test::Fail;
+
+// A value: `?` is Null, `#` stands before a number, and anything else is a text.
+fn read_value(alloc: Global, cell: &str) -> Result<Value, NoMemory> {
+    if cell == "?" {
+        return Ok(Value::Null);
+    }
+    match cell.strip_prefix('#') {
+        Some(digits) => match digits.parse::<i64>() {
+            Ok(number) => Ok(Value::Int(number)),
+            Err(_) => Ok(Value::Null),
+        },
+        None => Ok(Value::Text(Bytes::from_slice(alloc, cell.as_bytes())?)),
+    }
+}
+
+fn read_row(alloc: Global, text: &str) -> Result<Row, NoMemory> {
+    let mut row = Row::new(alloc);
+    for cell in text.split(' ') {
+        row.push(read_value(alloc, cell)?)?;
+    }
+    Ok(row)
+}
+
+// Rows with a semicolon behind each.
+fn read_rows(alloc: Global, text: &str) -> Result<Rows, NoMemory> {
+    let mut rows = Rows::new(alloc);
+    for line in text.split(';') {
+        if !line.is_empty() {
+            rows.push(read_row(alloc, line)?)?;
+        }
+    }
+    Ok(rows)
+}
+
+fn show_value(shown: &mut Vec<u8>, alloc: Global, value: &Value) -> Result<(), NoMemory> {
+    match value {
+        Value::Null => shown.push(b'?')?,
+        Value::Int(number) => {
+            shown.push(b'#')?;
+            shown.extend_from_slice(number.to_string(alloc)?.as_bytes())?;
+        }
+        Value::Text(text) => shown.extend_from_slice(text.as_slice())?,
+    }
+    Ok(())
+}
+
+fn show_row(alloc: Global, row: &Row) -> Result<Vec<u8>, NoMemory> {
+    let mut shown = Vec::new(alloc);
+    for value in row.as_slice() {
+        if !shown.is_empty() {
+            shown.push(b' ')?;
+        }
+        show_value(&mut shown, alloc, value)?;
+    }
+    shown.push(b';')?;
+    Ok(shown)
+}
+
+// The rows in the order of their texts.
+fn show(alloc: Global, rows: &Rows) -> Result<Vec<u8>, NoMemory> {
+    let mut lines = Vec::new(alloc);
+    for row in rows.as_slice() {
+        lines.push(show_row(alloc, row)?)?;
+    }
+    lines.sort_unstable_by(|a, b| a.as_slice().cmp(b.as_slice()));
+    let mut shown = Vec::new(alloc);
+    for line in &lines {
+        shown.extend_from_slice(line.as_slice())?;
+    }
+    Ok(shown)
+}
+
+// A kind of join, two sides of two columns, and what they give where the first columns are the keys.
+const CASES: &[(JoinKind, &str, &str, &str)] = &[
+    (
+        JoinKind::Inner,
+        "#1 a;#2 b;",
+        "#1 x;#1 y;#3 z;",
+        "#1 a #1 x;#1 a #1 y;",
+    ),
+    (JoinKind::Inner, "? a;", "? x;", ""),
+    (JoinKind::Inner, "#5 a;", "5 x;", ""),
+    (JoinKind::Inner, "", "#1 x;", ""),
+    (
+        JoinKind::Left,
+        "? #1;#7 #2;#7 #3;",
+        "? #9;#7 #8;#7 #8;",
+        "#7 #2 #7 #8;#7 #2 #7 #8;#7 #3 #7 #8;#7 #3 #7 #8;? #1 ? ?;",
+    ),
+    (JoinKind::Left, "#1 a;#1 a;", "", "#1 a ? ?;#1 a ? ?;"),
+    (JoinKind::Left, "", "#1 x;", ""),
+    (
+        JoinKind::Right,
+        "#1 a;#2 b;",
+        "#1 x;? y;#3 z;",
+        "#1 a #1 x;? ? #3 z;? ? ? y;",
+    ),
+    (JoinKind::Right, "", "#1 x;", "? ? #1 x;"),
+    (JoinKind::Right, "#1 x;", "", ""),
+    (
+        JoinKind::Full,
+        "#1 a;#2 b;",
+        "#1 x;#3 z;",
+        "#1 a #1 x;#2 b ? ?;? ? #3 z;",
+    ),
+    (JoinKind::Full, "? a;", "? x;", "? ? ? x;? a ? ?;"),
+    (JoinKind::Full, "", "", ""),
+    (
+        JoinKind::Semi,
+        "#1 a;#2 b;#1 a;",
+        "#1 x;#1 y;",
+        "#1 a;#1 a;",
+    ),
+    (JoinKind::Semi, "? a;", "? x;", ""),
+    (JoinKind::Anti, "#1 #5;? #6;", "", "#1 #5;? #6;"),
+    (JoinKind::Anti, "#1 #5;? #6;", "?;", "#1 #5;? #6;"),
+    (JoinKind::Anti, "#1 a;#2 b;", "#1 x;", "#2 b;"),
+];
+
+#[test]
+fn joins_give_these_rows(rt: HostRuntime) -> Result<(), Fail> {
+    let alloc = rt.alloc();
+    let keys = KeyPairs::from_vec(vec![in alloc; (0, 0)]?);
+    let widths = Widths { left: 2, right: 2 };
+    for (kind, left, right, wanted) in CASES {
+        let left = read_rows(alloc, left)?;
+        let right = read_rows(alloc, right)?;
+        let given = join(alloc, *kind, &keys, widths, &left, &right)?;
+        let shown = show(alloc, &given)?;
+        assert_eq!(rt; shown.as_slice(), wanted.as_bytes());
+    }
+    Ok(())
+}
+
+fn numbered(alloc: Global, rows: u32, kinds: u32) -> Result<Rows, NoMemory>
+    requires { 0 < kinds }
+{
+    let mut made = Rows::new(alloc);
+    for number in 0..rows {
+        let mut row = Row::new(alloc);
+        row.push(Value::Int(i64::from(number % kinds)))?;
+        made.push(row)?;
+    }
+    Ok(made)
+}
+
+// Each in far less time than a comparison of all pairs takes.
+#[test]
+fn many_rows_are_joined_quickly(rt: HostRuntime) -> Result<(), Fail> {
+    let alloc = rt.alloc();
+    let keys = KeyPairs::from_vec(vec![in alloc; (0, 0)]?);
+    let widths = Widths { left: 1, right: 1 };
+    let each = numbered(alloc, 20000, 20000)?;
+    let same = numbered(alloc, 20000, 1)?;
+    let few = numbered(alloc, 10, 1)?;
+    let pairs = join(alloc, JoinKind::Inner, &keys, widths, &each, &each)?;
+    assert_eq!(rt; pairs.len(), 20000);
+    let many = join(alloc, JoinKind::Full, &keys, widths, &same, &few)?;
+    assert_eq!(rt; many.len(), 200000);
+    Ok(())
+}

@@ -1,0 +1,6 @@
+pub mod Orders
+pub mod Sames
+pub mod Runs
+pub mod Pieces
+pub mod Sums
+pub mod Owed

@@ -1,0 +1,80 @@
+ghost use Rattle.std.specs.Prelude.{◌≡◌, [], get_or, map, IfOk};
+ghost use Rattle.row_core.specs.Values.{value_cmp};
+ghost use Rattle.row_core.specs.declared.value.Value.TheVariants.{Null};
+ghost use Rattle.op_unary.specs.Cells.{or_null};
+
+use row_core::{NoMemory, Row, Rows, Value};
+use std::alloc::Global;
+use std::cmp::Ordering;
+
+/// The value in a column, none where the row has no such column.
+pub fn cell(row: &Row, column: u32) -> Option<&Value>
+    ensures { or_null result ≡ get_or row.now column Null }
+{
+    row.as_slice().get(column as usize)
+}
+
+/// The value in a column of the first row, none where there is no row.
+pub fn first_cell<'a>(rows: &[&'a Row], column: u32) -> Option<&'a Value>
+    ensures { or_null result ≡ get_or (get_or (map (λ row. row.now) rows.now) 0 []) column Null }
+{
+    match rows.first() {
+        Some(row) => cell(row, column),
+        None => None,
+    }
+}
+
+/// The order of two values, where none is as Null.
+pub fn cmp_cells(a: Option<&Value>, b: Option<&Value>) -> Ordering
+    ensures { result ≡ value_cmp (or_null a.entry) (or_null b.entry) }
+{
+    match (a, b) {
+        (Some(a), Some(b)) => a.cmp(b),
+        (Some(a), None) => a.cmp(&Value::Null),
+        (None, Some(b)) => Value::Null.cmp(b),
+        (None, None) => Ordering::Equal,
+    }
+}
+
+/// A copy of a value, Null where there is none.
+pub fn copied(alloc: Global, value: Option<&Value>) -> Result<Value, NoMemory>
+    ensures { IfOk result (λ copy. copy ≡ or_null value.entry) }
+{
+    match value {
+        Some(value) => value.copy(alloc),
+        None => Ok(Value::Null),
+    }
+}
+
+/// The rows without a copy of their values.
+pub fn borrowed<'a>(alloc: Global, rows: &'a [Row]) -> Result<Vec<&'a Row>, NoMemory>
+    ensures { IfOk result (λ all. map (λ row. row.now) all.items ≡ rows.now) }
+{
+    let mut all = Vec::with_capacity(alloc, rows.len())?;
+    for row in rows {
+        all.push(row)?;
+    }
+    Ok(all)
+}
+
+/// A copy of the rows.
+pub fn copies(alloc: Global, rows: &[Row]) -> Result<Rows, NoMemory>
+    ensures { IfOk result (λ copies. copies ≡ rows.now) }
+{
+    let mut copies = Rows::new(alloc);
+    for row in rows {
+        copies.push(row.copy(alloc)?)?;
+    }
+    Ok(copies)
+}
+
+/// A copy of the rows that are pointed to.
+pub fn copies_of(alloc: Global, rows: &[&Row]) -> Result<Rows, NoMemory>
+    ensures { IfOk result (λ copies. copies ≡ map (λ row. row.now) rows.now) }
+{
+    let mut copies = Rows::new(alloc);
+    for row in rows {
+        copies.push(row.copy(alloc)?)?;
+    }
+    Ok(copies)
+}

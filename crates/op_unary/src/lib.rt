@@ -1,0 +1,19 @@
+//! The operators on one input: filter, project, explode, union, aggregate and distinct.
+//! docs/SEMANTICS.md says what each gives. Rows come in no promised order.
+#![tactic(auto)]
+
+mod aggregating;
+mod cells;
+mod each_once;
+mod exploding;
+mod filtering;
+mod keys;
+mod laws;
+mod operators;
+mod projecting;
+mod telling;
+#[cfg(test)]
+mod tests;
+
+pub use laws::{bags_are_kept, groups_go_by_keys, nodes_apply, rows_go_alone};
+pub use operators::apply;
