@@ -16,6 +16,7 @@ use std::alloc::Global;
 
 /// The test that the value spells, if it spells one.
 pub fn read_test(alloc: Global, value: &Value) -> Result<Option<Pred>, NoMemory>
+    ensures is { IfOk result (λ found. found ≡ test_of (view value.now)) }
     ensures spelled { IfOk result (λ found. IfSome found (λ test. SpellsTest (view value.now) test)) }
     ensures only { IfOk result (λ found. IfSome found (λ test.
         (other : Pred) → SpellsTest (view value.now) other → other ≡ test)) }
