@@ -100,7 +100,7 @@ const SETTINGS: [(&str, &str); 17] = [
 ];
 
 // The nodes of a job.
-const NODES: [(&str, &str); 51] = [
+const NODES: [(&str, &str); 77] = [
     (r#"{}"#, "missing-member node=0 name=op"),
     (r#"{"op":1}"#, "bad-member node=0 name=op"),
     (r#"{"op":"sort"}"#, "unknown-op node=0 name=op"),
@@ -276,6 +276,104 @@ const NODES: [(&str, &str); 51] = [
         r#"{"op":"sink","input":0,"name":"out","rebalance":true}"#,
         "unknown-member node=0 name=rebalance",
     ),
+    (r#"{"x":1}"#, "missing-member node=0 name=op"),
+    (r#"{"op":1,"table":1}"#, "bad-member node=0 name=op"),
+    (
+        r#"{"op":"source","table":"T","columns":[]}"#,
+        "bad-member node=0 name=table",
+    ),
+    (
+        r#"{"op":"source","table":"t","columns":[],"x":1}"#,
+        "bad-member node=0 name=columns",
+    ),
+    (
+        r#"{"op":"filter","input":0,"ship":"away"}"#,
+        "missing-member node=0 name=where",
+    ),
+    (
+        r#"{"op":"project","input":-1,"exprs":[]}"#,
+        "bad-number node=0 name=input",
+    ),
+    (
+        r#"{"op":"project","input":0,"exprs":[["bad"]],"ship":"away"}"#,
+        "bad-expr node=0 name=exprs",
+    ),
+    (
+        r#"{"op":"project","input":0,"exprs":[["null"]],"ship":1,"x":1}"#,
+        "bad-member node=0 name=ship",
+    ),
+    (
+        r#"{"op":"explode","input":-1,"column":"c"}"#,
+        "bad-number node=0 name=input",
+    ),
+    (
+        r#"{"op":"explode","input":0,"separator":"ab"}"#,
+        "missing-member node=0 name=column",
+    ),
+    (
+        r#"{"op":"explode","input":0,"column":0,"separator":"","ship":"away"}"#,
+        "bad-member node=0 name=separator",
+    ),
+    (
+        r#"{"op":"explode","input":0,"column":0,"separator":"é"}"#,
+        "bad-member node=0 name=separator",
+    ),
+    (
+        r#"{"op":"explode","input":0,"column":0,"separator":",","ship":"away","x":1}"#,
+        "bad-member node=0 name=ship",
+    ),
+    (
+        r#"{"op":"union","inputs":[0,-1],"x":1}"#,
+        "bad-number node=0 name=inputs",
+    ),
+    (
+        r#"{"op":"union","inputs":[0,1],"input":0}"#,
+        "unknown-member node=0 name=input",
+    ),
+    (
+        r#"{"op":"aggregate","input":"0","keys":3}"#,
+        "bad-member node=0 name=input",
+    ),
+    (
+        r#"{"op":"aggregate","input":0,"keys":[],"aggs":[["avg",0],["sum",-1]]}"#,
+        "bad-member node=0 name=aggs",
+    ),
+    (
+        r#"{"op":"aggregate","input":0,"keys":[0],"aggs":[["sum",-1]],"x":1}"#,
+        "bad-number node=0 name=aggs",
+    ),
+    (
+        r#"{"op":"distinct","input":1.5,"x":1}"#,
+        "bad-number node=0 name=input",
+    ),
+    (
+        r#"{"op":"join","left":-1,"right":1,"keys":[]}"#,
+        "missing-member node=0 name=kind",
+    ),
+    (
+        r#"{"op":"join","kind":"full","left":0,"right":-1,"keys":3}"#,
+        "bad-number node=0 name=right",
+    ),
+    (
+        r#"{"op":"join","kind":"left","left":0,"right":1,"keys":[[0,-1],[0]]}"#,
+        "bad-member node=0 name=keys",
+    ),
+    (
+        r#"{"op":"join","kind":"left","left":0,"right":1,"keys":[[0,-1]],"x":1}"#,
+        "bad-number node=0 name=keys",
+    ),
+    (
+        r#"{"op":"sink","input":-1,"name":"A"}"#,
+        "bad-number node=0 name=input",
+    ),
+    (
+        r#"{"op":"sink","input":0,"name":"A","ship":"away"}"#,
+        "bad-member node=0 name=name",
+    ),
+    (
+        r#"{"op":"sink","input":0,"name":"a","ship":"away","x":1}"#,
+        "bad-member node=0 name=ship",
+    ),
     (r#"{"op":"sort"},7"#, "unknown-op node=0 name=op"),
     (
         r#"{"op":"distinct","input":0},7"#,
@@ -384,7 +482,35 @@ fn tells_the_first_fault(rt: HostRuntime) -> Result<(), Fail> {
 }
 
 // A case of repeated parts: what stands before, the part, how often, what stands after, and the fault.
-const REPEATED: [(&str, &str, usize, &str, &str); 14] = [
+const REPEATED: [(&str, &str, usize, &str, &str); 18] = [
+    (
+        r#"{"job":"a","nodes":["#,
+        "1,",
+        256,
+        r#"1],"zz":1}"#,
+        "unknown-member node=- name=zz",
+    ),
+    (
+        r#"{"job":"a","nodes":[{"op":"project","input":0,"exprs":["#,
+        r#"["bad"],"#,
+        256,
+        r#"["col",-1]]}]}"#,
+        "too-many node=0 name=list 257",
+    ),
+    (
+        r#"{"job":"a","nodes":[{"op":"union","inputs":["#,
+        "0,",
+        64,
+        r#""x"]}]}"#,
+        "bad-member node=0 name=inputs",
+    ),
+    (
+        r#"{"job":"a","nodes":[{"op":"aggregate","input":0,"keys":["#,
+        "0,",
+        256,
+        r#""x"],"aggs":[]}]}"#,
+        "bad-member node=0 name=keys",
+    ),
     ("", " ", 1_048_577, "", "too-many node=- name=bytes 1048577"),
     ("", " ", 1_048_576, "", "not-json node=- name=-"),
     ("", "[", 200, "", "not-json node=- name=-"),
@@ -493,5 +619,11 @@ fn tells_depths(rt: HostRuntime) -> Result<(), Fail> {
         deep(alloc, 32)?
     )?;
     assert!(rt; is_outcome(alloc, test.as_str(), "too-many node=1 name=depth 34")?);
+    let long = format!(in alloc;
+        "{{\"job\":\"a\",\"nodes\":[{{\"op\":\"project\",\"input\":0,\"exprs\":[{}{}]}}]}}",
+        repeated(alloc, "", r#"["null"],"#, 256, "")?,
+        deep(alloc, 32)?
+    )?;
+    assert!(rt; is_outcome(alloc, long.as_str(), "too-many node=0 name=list 257")?);
     Ok(())
 }
