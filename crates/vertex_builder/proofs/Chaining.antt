@@ -13,7 +13,8 @@ use Rattle.plan_model.specs.declared.op.Op.{Op}
 use Rattle.plan_model.specs.declared.op.Op.TheVariants.{Source, Filter, Project, Explode, Union, Aggregate, Distinct, Join, Sink}
 use Rattle.plan_model.specs.declared.ship.Ship.TheVariants.{Forward, Rebalance}
 use Rattle.vertex_builder.specs.declared.edge.Edge.{Edge}
-use Rattle.vertex_builder.specs.Edges.{edges_into, edges_of, consumer_edges, op_ship, ship_into, is_forward, is_rowwise, may_chain, is_chained, chained_after, is_head, IsBelow, ListConsumers}
+use Rattle.vertex_builder.specs.Edges.{edges_into, edges_of, consumer_edges, op_ship, ship_into, is_forward, is_rowwise, may_chain, is_chained, chained_after, is_head}
+use Rattle.vertex_builder.specs.Links.{IsBelow, ListConsumers}
 use Rattle.vertex_builder.proofs.EdgeLists.{edges_of-next}
 use Rattle.vertex_builder.proofs.GoodNodes.{good_node}
 

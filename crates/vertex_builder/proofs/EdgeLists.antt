@@ -5,7 +5,8 @@ use Rattle.std.proofs.lemmas.List.{append-nil, take_more}
 use Rattle.std.proofs.lemmas.List.Elements.{filter-append}
 use Rattle.plan_model.specs.declared.node.Node.{Node}
 use Rattle.vertex_builder.specs.declared.edge.Edge.{Edge}
-use Rattle.vertex_builder.specs.Edges.{edges_into, edges_from, edges_of, consumer_edges, HaveMore, ListConsumers}
+use Rattle.vertex_builder.specs.Edges.{edges_into, edges_from, edges_of, consumer_edges}
+use Rattle.vertex_builder.specs.Links.{HaveMore, ListConsumers}
 
 -- ---- edges
 

@@ -1,8 +1,7 @@
 -- The edges of a plan, and how rows go along them.
-use Rattle.std.specs.Prelude.{◌≡◌, ℕ, ◌+◌, ◌^◌, ◌<◌, ◌==◌, Bool, true, false, not, ◌&&◌, List, [], ◌∷◌, ◌++◌, length, map, filter, find, get_or, slice_get, Option, if◌then◌else◌}
+use Rattle.std.specs.Prelude.{ℕ, ◌+◌, ◌==◌, Bool, true, false, not, ◌&&◌, List, [], ◌∷◌, ◌++◌, length, map, filter, find, get_or, slice_get, Option, if◌then◌else◌}
 use Rattle.std.specs.List.{list_all, range_with_len}
 use Rattle.std.specs.Option.{option_map, option_map_or}
-use Rattle.plan_model.specs.Checks.{plan_faults}
 use Rattle.plan_model.specs.Widths.{widths_of}
 use Rattle.plan_model.specs.declared.node.Node.{Node}
 use Rattle.plan_model.specs.declared.op.Op.{Op}
@@ -34,30 +33,6 @@ consumer_edges nodes node = filter (λ edge. edge.from == node) (edges_of nodes)
 -- the edges into a node
 abbrev pub input_edges : List Node → ℕ → List Edge
 input_edges nodes place = option_map_or (λ node. edges_into place 0 node.inputs) (slice_get nodes place) []
-
--- ---- what is kept of a plan
-
--- lists that have these edges more, each at the node that it comes from
-pub record HaveMore (old new : List (List Edge)) (edges : List Edge) : Type 0 where
-  pub len : length new ≡ length old
-  pub each : (k : ℕ) → k < length old → get_or new k [] ≡ get_or old k [] ++ filter (λ edge. edge.from == k) edges
-
--- the consumer edges of each node
-pub record ListConsumers (nodes : List Node) (lists : List (List Edge)) : Type 0 where
-  pub len : length lists ≡ length nodes
-  pub each : (k : ℕ) → k < length nodes → get_or lists k [] ≡ consumer_edges nodes k
-
--- the nodes of a plan without a fault, with their widths and consumer edges
-pub record AreLinked (nodes : List Node) (widths : List ℕ) (lists : List (List Edge)) : Type 0 where
-  pub faultless : plan_faults nodes ≡ []
-  pub few : length nodes < 2 ^ 32
-  pub wide : widths ≡ widths_of nodes
-  pub consumers : ListConsumers nodes lists
-
--- the second number stands between the others
-pub record IsBelow (low n high : ℕ) : Type 0 where
-  pub above : low < n
-  pub below : n < high
 
 -- ---- ships
 

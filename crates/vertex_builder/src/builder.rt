@@ -1,6 +1,7 @@
 ghost use Rattle.std.specs.Prelude.{◌≡◌, ◌<◌, ◌^◌, ◌&&◌, not, false, [], length, map, get_or, All, IfOk};
 ghost use Rattle.std.specs.List.{list_all};
-ghost use Rattle.vertex_builder.specs.Edges.{AreLinked, is_head};
+ghost use Rattle.vertex_builder.specs.Edges.{is_head};
+ghost use Rattle.vertex_builder.specs.Links.{AreLinked};
 ghost use Rattle.vertex_builder.specs.Vertices.{inputs_at, makeable_heads, head_of, IsVertex};
 
 use crate::consumers::consumers;

@@ -1,5 +1,5 @@
 ghost use Rattle.std.specs.Prelude.{◌≡◌, ◌<◌, length, All, IfOk};
-ghost use Rattle.vertex_builder.specs.Edges.{AreLinked};
+ghost use Rattle.vertex_builder.specs.Links.{AreLinked};
 ghost use Rattle.vertex_builder.specs.Vertices.{IsChain, OneChain};
 
 use crate::NodeList;

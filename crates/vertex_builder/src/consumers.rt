@@ -1,7 +1,8 @@
 ghost use Rattle.std.specs.Prelude.{◌≡◌, ◌<◌, ◌^◌, ◌∷◌, [], length, replicate, IfOk, OnOk};
 ghost use Rattle.plan_model.specs.Checks.{plan_faults};
 ghost use Rattle.vertex_builder.specs.declared.edge.Edge as edge;
-ghost use Rattle.vertex_builder.specs.Edges.{edges_into, HaveMore, ListConsumers};
+ghost use Rattle.vertex_builder.specs.Edges.{edges_into};
+ghost use Rattle.vertex_builder.specs.Links.{HaveMore, ListConsumers};
 
 use crate::{Edge, EdgeList};
 use plan_model::Node;

@@ -1,6 +1,7 @@
 ghost use Rattle.std.specs.Prelude.{◌≡◌, ◌<◌, ◌==◌, ◌&&◌, not, [], length, get_or, IfOk, IfSome};
 ghost use Rattle.std.specs.List.{list_all};
-ghost use Rattle.vertex_builder.specs.Edges.{AreLinked, IsBelow, is_head, chained_after, edge_ship, is_rowwise};
+ghost use Rattle.vertex_builder.specs.Edges.{is_head, chained_after, edge_ship, is_rowwise};
+ghost use Rattle.vertex_builder.specs.Links.{AreLinked, IsBelow};
 
 use crate::shipping::ship_into;
 use crate::{Edge, EdgeList};

@@ -1,5 +1,6 @@
 ghost use Rattle.std.specs.Prelude.{◌≡◌, ◌<◌, ◌^◌, ◌∷◌, [], length, map, All, IfOk};
-ghost use Rattle.vertex_builder.specs.Edges.{AreLinked, edges_into};
+ghost use Rattle.vertex_builder.specs.Edges.{edges_into};
+ghost use Rattle.vertex_builder.specs.Links.{AreLinked};
 ghost use Rattle.vertex_builder.specs.Vertices.{is_source, files_input, text_output, vertex_input, vertex_inputs, vertex_output, vertex_outputs, head_of, IsVertex, OneAnswer};
 
 use crate::chain::chain_of;

@@ -1,5 +1,6 @@
 use Rattle.std.proofs.Common.{take}
-use Rattle.vertex_builder.specs.Edges.{edges_into, HaveMore}
+use Rattle.vertex_builder.specs.Edges.{edges_into}
+use Rattle.vertex_builder.specs.Links.{HaveMore}
 use Rattle.vertex_builder.proofs.consumers.add_inputs.Given as goal
 
 abbrev pub invariant-loop-place : goal.invariant-loop-place

@@ -1,5 +1,6 @@
 use Rattle.std.proofs.Common.{take, length, replicate, []}
-use Rattle.vertex_builder.specs.Edges.{edges_of, HaveMore}
+use Rattle.vertex_builder.specs.Edges.{edges_of}
+use Rattle.vertex_builder.specs.Links.{HaveMore}
 use Rattle.vertex_builder.proofs.consumers.consumers.Given as goal
 
 abbrev pub invariant-loop-place : goal.invariant-loop-place
