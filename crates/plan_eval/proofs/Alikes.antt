@@ -1,0 +1,76 @@
+-- Operators make equal bags of equal bags.
+use Rattle.std.proofs.Common.{◌≡◌, ℕ, suc, List, [], ◌∷◌, refl, subst, map}
+use Rattle.std.proofs.Math.ListN.{get_or-map}
+use Rattle.std.proofs.Common.{sym, get_or}
+use Rattle.std.specs.List.{flat_map}
+use Rattle.row_core.specs.Bags.{SameBag}
+use Rattle.bag_laws.proofs.Alike.{same_refl, same_on}
+use Rattle.bag_laws.proofs.Counts.{SameBag-append}
+use Rattle.bag_laws.specs.Rows.{OneRow as Row}
+use Rattle.op_unary.proofs.Owed.{kept}
+use Rattle.op_join.proofs.Kept.{joined_same}
+use Rattle.plan_model.specs.Joins.{joined}
+use Rattle.plan_model.specs.Plans.{Bag, bag_at, bag_of, join_width, empty_bag}
+use Rattle.plan_model.specs.Widths.{width_of}
+use Rattle.plan_model.specs.declared.op.Op.{Op}
+use Rattle.plan_model.specs.declared.op.Op.TheVariants.{Source, Filter, Project, Explode, Union, Aggregate, Distinct, Join, Sink}
+use Rattle.plan_eval.specs.Evaluated.{Alike}
+
+pub alike_itself : (bag : Bag) → Alike bag bag
+alike_itself bag = record { width = refl; rows = same_refl bag.rows }
+
+pub alike_on : (bag other more : Bag) → Alike bag other → Alike other more → Alike bag more
+alike_on bag other more one two = record { width = λ i. (trans one.width two.width) i; rows = same_on one.rows two.rows }
+  where
+    trans : {m n k : ℕ} → m ≡ n → n ≡ k → m ≡ k
+    trans {m} e f = subst (λ (x : ℕ). m ≡ x) f e
+
+union_same : (inputs others : List Bag) → ((place : ℕ) → Alike (bag_at inputs place) (bag_at others place))
+    → SameBag (flat_map (λ bag. bag.rows) inputs) (flat_map (λ bag. bag.rows) others)
+union_same [] [] alike = same_refl []
+union_same [] (other ∷ others) alike =
+    SameBag-append [] [] other.rows (flat_map (λ bag. bag.rows) others) (alike 0).rows (union_same [] others (λ place. alike (suc place)))
+union_same (bag ∷ inputs) [] alike =
+    SameBag-append bag.rows (flat_map (λ bag. bag.rows) inputs) [] [] (alike 0).rows (union_same inputs [] (λ place. alike (suc place)))
+union_same (bag ∷ inputs) (other ∷ others) alike =
+    SameBag-append bag.rows (flat_map (λ bag. bag.rows) inputs) other.rows (flat_map (λ bag. bag.rows) others) (alike 0).rows
+    (union_same inputs others (λ place. alike (suc place)))
+
+pub by_bags : (files : List ℕ → List (List ℕ)) (op : Op) (inputs others : List Bag) → ((place : ℕ) → Alike (bag_at inputs place) (bag_at others place))
+    → Alike (bag_of files op inputs) (bag_of files op others)
+by_bags files (Source table columns) inputs others alike = alike_itself (bag_of files (Source table columns) inputs)
+by_bags files (Filter test) inputs others alike = record { width = (alike 0).width; rows = kept (Filter test) (bag_at inputs 0).rows (bag_at others 0).rows (alike 0).rows }
+by_bags files (Project exprs) inputs others alike = record { width = refl; rows = kept (Project exprs) (bag_at inputs 0).rows (bag_at others 0).rows (alike 0).rows }
+by_bags files (Explode column separator) inputs others alike =
+    record { width = (alike 0).width; rows = kept (Explode column separator) (bag_at inputs 0).rows (bag_at others 0).rows (alike 0).rows }
+by_bags files Union inputs others alike = record { width = (alike 0).width; rows = union_same inputs others alike }
+by_bags files (Aggregate keys aggs) inputs others alike = record { width = refl; rows = kept (Aggregate keys aggs) (bag_at inputs 0).rows (bag_at others 0).rows (alike 0).rows }
+by_bags files Distinct inputs others alike = record { width = (alike 0).width; rows = kept Distinct (bag_at inputs 0).rows (bag_at others 0).rows (alike 0).rows }
+by_bags files (Join kind keys) inputs others alike =
+    let left = bag_at inputs 0 in
+    let right = bag_at inputs 1 in
+    let left' = bag_at others 0 in
+    let right' = bag_at others 1 in
+    record {
+      width = λ i. join_width kind ((alike 0).width i) ((alike 1).width i);
+      rows = subst (λ (rows : List Row). SameBag (joined keys left.width right.width left.rows right.rows kind) rows)
+          (λ i. joined keys ((alike 0).width i) ((alike 1).width i) left'.rows right'.rows kind)
+          (joined_same kind keys left.width right.width left.rows left'.rows right.rows right'.rows (alike 0).rows (alike 1).rows);
+    }
+by_bags files (Sink name) inputs others alike = alike 0
+
+-- ---- widths
+
+pub width_at : (bags : List Bag) (place : ℕ) → (bag_at bags place).width ≡ get_or (map (λ bag. bag.width) bags) place 0
+width_at bags place = sym (get_or-map (λ (bag : Bag). bag.width) bags place empty_bag)
+
+pub bag_width : (files : List ℕ → List (List ℕ)) (op : Op) (inputs : List Bag) → (bag_of files op inputs).width ≡ width_of op (map (λ bag. bag.width) inputs)
+bag_width files (Source table columns) inputs = refl
+bag_width files (Filter test) inputs = width_at inputs 0
+bag_width files (Project exprs) inputs = refl
+bag_width files (Explode column separator) inputs = width_at inputs 0
+bag_width files Union inputs = width_at inputs 0
+bag_width files (Aggregate keys aggs) inputs = refl
+bag_width files Distinct inputs = width_at inputs 0
+bag_width files (Join kind keys) inputs = λ i. join_width kind (width_at inputs 0 i) (width_at inputs 1 i)
+bag_width files (Sink name) inputs = width_at inputs 0

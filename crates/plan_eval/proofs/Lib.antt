@@ -1,0 +1,6 @@
+pub mod Alikes
+pub mod Operated
+pub mod Sound
+pub mod Steps
+pub mod Texts
+pub mod WidthsKept

@@ -1,0 +1,242 @@
+-- One node more: its rows are the definition's, and so is the text so far.
+use Rattle.std.proofs.Common.{◌≡◌, ℕ, zero, suc, ◌+◌, ◌<◌, ◌≤◌, true, not, leb-true, ◌⊎◌, inl, inr, List, [], ◌∷◌, ◌++◌, length, map, get_or, All, IsTrue, refl, sym, subst, ◌∙◌, ap, arith, length-append}
+use Rattle.std.proofs.Math.Seq.{get_or-append_seam}
+use Rattle.std.proofs.lemmas.List.{length-map, map-append, append_assoc, append-nil, get_or_append_left}
+use Rattle.std.proofs.lemmas.List.Elements.{All-append, All-map}
+use Rattle.std.proofs.lemmas.List.Sorted.{All-permutation}
+use Rattle.std.proofs.lemmas.List.Sums.{AllPass-from_list_all}
+use Rattle.row_core.specs.Bags.{SameBag}
+use Rattle.bag_laws.proofs.Alike.{same_sym}
+use Rattle.bag_laws.proofs.Permutations.{permutation_of_same}
+use Rattle.plan_model.specs.Checks.{takes, columns_fit, widths_agree, gives_rows, is_sink}
+use Rattle.plan_model.specs.Plans.{Bag, bag_at, bag_of, bags_from, bags_of, empty_bag, sink_section, sink_sections, committed_text}
+use Rattle.plan_model.specs.Widths.{width_of, widths_of, widths_from, input_widths}
+use Rattle.plan_model.specs.declared.node.Node.{Node}
+use Rattle.plan_model.specs.declared.op.Op.{Op}
+use Rattle.plan_model.specs.declared.op.Op.TheVariants.{Source, Filter, Project, Explode, Union, Aggregate, Distinct, Join, Sink}
+use Rattle.plan_eval.specs.Evaluated.{Alike, HasItsWidth, IsGood, as_bag, inputs_in}
+use Rattle.plan_eval.specs.declared.node_rows.NodeRows.{NodeRows}
+use Rattle.plan_eval.proofs.Alikes.{alike_itself, alike_on, by_bags, bag_width, width_at}
+use Rattle.plan_eval.proofs.Sound.{IsSound, gives_within}
+use Rattle.plan_eval.proofs.Texts.{section_same}
+use Rattle.plan_eval.proofs.WidthsKept.{bag_wide}
+
+-- ---- the definitions, one node more at a time
+
+widths_from-append : (widths : List ℕ) (before nodes : List Node) → widths_from widths (before ++ nodes) ≡ widths_from (widths_from widths before) nodes
+widths_from-append widths [] nodes = refl
+widths_from-append widths (node ∷ before) nodes = widths_from-append (widths ++ width_of node.op (input_widths widths node.inputs) ∷ []) before nodes
+
+widths_of-more : (before : List Node) (node : Node) → widths_of (before ++ node ∷ []) ≡ widths_of before ++ width_of node.op (input_widths (widths_of before) node.inputs) ∷ []
+widths_of-more before node = widths_from-append [] before (node ∷ [])
+
+length-widths_from : (widths : List ℕ) (nodes : List Node) → length (widths_from widths nodes) ≡ length widths + length nodes
+length-widths_from widths [] = omega arith
+length-widths_from widths (node ∷ nodes) =
+    let rest = length-widths_from (widths ++ width_of node.op (input_widths widths node.inputs) ∷ []) nodes in
+    let more = length-append widths (width_of node.op (input_widths widths node.inputs) ∷ []) in
+    omega (arith, rest, more)
+
+module _ (files : List ℕ → List (List ℕ)) where
+  bags_from-append : (bags : List Bag) (before nodes : List Node) → bags_from files bags (before ++ nodes) ≡ bags_from files (bags_from files bags before) nodes
+  bags_from-append bags [] nodes = refl
+  bags_from-append bags (node ∷ before) nodes = bags_from-append (bags ++ bag_of files node.op (map (bag_at bags) node.inputs) ∷ []) before nodes
+
+  bags_of-more : (before : List Node) (node : Node) → bags_of files (before ++ node ∷ []) ≡ bags_of files before ++ bag_of files node.op (map (bag_at (bags_of files before)) node.inputs) ∷ []
+  bags_of-more before node = bags_from-append [] before (node ∷ [])
+
+  length-bags_from : (bags : List Bag) (nodes : List Node) → length (bags_from files bags nodes) ≡ length bags + length nodes
+  length-bags_from bags [] = omega arith
+  length-bags_from bags (node ∷ nodes) =
+      let rest = length-bags_from (bags ++ bag_of files node.op (map (bag_at bags) node.inputs) ∷ []) nodes in
+      let more = length-append bags (bag_of files node.op (map (bag_at bags) node.inputs) ∷ []) in
+      omega (arith, rest, more)
+
+sections-more : (nodes : List Node) (bags : List Bag) (node : Node) (bag : Bag) → length bags ≡ length nodes
+    → sink_sections (nodes ++ node ∷ []) (bags ++ bag ∷ []) ≡ sink_sections nodes bags ++ sink_section node.op bag
+sections-more [] [] node bag long = append-nil (sink_section node.op bag)
+sections-more [] (other ∷ bags) node bag long = absurd (omega arith)
+sections-more (first ∷ nodes) [] node bag long = absurd (omega arith)
+sections-more (first ∷ nodes) (other ∷ bags) node bag long =
+    ap (λ (rest : List ℕ). sink_section first.op other ++ rest) (sections-more nodes bags node bag (omega (arith, long)))
+    ∙ sym (append_assoc (sink_section first.op other) (sink_sections nodes bags) (sink_section node.op bag))
+
+section_of : (files : List ℕ → List (List ℕ)) (op : Op) (inputs : List Bag) → sink_section op (bag_of files op inputs) ≡ sink_section op (bag_at inputs 0)
+section_of files (Source table columns) inputs = refl
+section_of files (Filter test) inputs = refl
+section_of files (Project exprs) inputs = refl
+section_of files (Explode column separator) inputs = refl
+section_of files Union inputs = refl
+section_of files (Aggregate keys aggs) inputs = refl
+section_of files Distinct inputs = refl
+section_of files (Join kind keys) inputs = refl
+section_of files (Sink name) inputs = refl
+
+-- ---- lists that grow by one
+
+old_at : (bags : List Bag) (bag : Bag) (place : ℕ) → place < length bags → bag_at (bags ++ bag ∷ []) place ≡ bag_at bags place
+old_at bags bag place lt = get_or_append_left bags (bag ∷ []) empty_bag place lt
+
+new_at : (bags : List Bag) (bag : Bag) (place : ℕ) → place ≡ length bags → bag_at (bags ++ bag ∷ []) place ≡ bag
+new_at bags bag place is = ap (bag_at (bags ++ bag ∷ [])) is ∙ get_or-append_seam bags bag [] empty_bag
+
+gives-more : (before : List Node) (node : Node) (place : ℕ) → gives_rows (before ++ node ∷ []) place ≡ true
+    → (gives_rows before place ≡ true) ⊎ ((place ≡ length before) × (not (is_sink node.op) ≡ true))
+gives-more [] node zero gives = inr (refl, gives)
+gives-more [] node (suc place) gives = cc
+gives-more (first ∷ before) node zero gives = inl gives
+gives-more (first ∷ before) node (suc place) gives = elim (gives-more before node place gives) [ inl old ↦ inl old | inr new ↦ inr (ap suc new.0, new.1) ]
+
+one_narrow : (width : ℕ) → width ≤ 256 → All (λ w. w ≤ 256) (width ∷ [])
+one_narrow width le zero d lt = le
+one_narrow width le (suc k) d lt = omega (arith, lt)
+
+narrow_at : (widths : List ℕ) → All (λ w. w ≤ 256) widths → (place : ℕ) → get_or widths place 0 ≤ 256
+narrow_at [] narrow place = omega arith
+narrow_at (width ∷ widths) narrow zero = narrow 0 width (omega arith)
+narrow_at (width ∷ widths) narrow (suc place) = narrow_at widths (λ k d lt. narrow (suc k) d (omega (arith, lt))) place
+
+widths_are : (bags : List Bag) (inputs : List ℕ) → map (λ bag. bag.width) (map (bag_at bags) inputs) ≡ input_widths (map (λ bag. bag.width) bags) inputs
+widths_are bags [] = refl
+widths_are bags (input ∷ inputs) = λ i. width_at bags input i ∷ widths_are bags inputs i
+
+along : (bags others : List Bag) (inputs : List ℕ) → All (λ input. Alike (bag_at bags input) (bag_at others input)) inputs
+    → (place : ℕ) → Alike (bag_at (map (bag_at bags) inputs) place) (bag_at (map (bag_at others) inputs) place)
+along bags others [] alike place = alike_itself empty_bag
+along bags others (input ∷ inputs) alike zero = alike 0 input (omega arith)
+along bags others (input ∷ inputs) alike (suc place) = along bags others inputs (λ k d lt. alike (suc k) d (omega (arith, lt))) place
+
+-- ---- the nodes so far
+
+-- the rows that are kept for the nodes so far are the definition's, but for the sinks
+pub record IsEvaluated (files : List ℕ → List (List ℕ)) (nodes : List Node) (done : List NodeRows) : Type 0 where
+  pub widths : map (λ bag. bag.width) (map as_bag done) ≡ widths_of nodes
+  pub narrow : All (λ width. width ≤ 256) (widths_of nodes)
+  pub alike : (place : ℕ) → gives_rows nodes place ≡ true → Alike (bag_at (map as_bag done) place) (bag_at (bags_of files nodes) place)
+  pub fit : (place : ℕ) → gives_rows nodes place ≡ true → HasItsWidth (bag_at (map as_bag done) place)
+
+pub none_evaluated : (files : List ℕ → List (List ℕ)) → IsEvaluated files [] []
+none_evaluated files = record {
+  widths = refl;
+  narrow = λ k d lt. omega (arith, lt);
+  alike = λ place gives. cc;
+  fit = λ place gives. cc;
+}
+
+module _ (files : List ℕ → List (List ℕ)) (before : List Node) (done : List NodeRows) (so_far : IsEvaluated files before done) (node : Node) (sound : IsSound before node) where
+  abbrev found : List Bag
+  found = map as_bag done
+
+  abbrev defined : List Bag
+  defined = bags_of files before
+
+  abbrev given : List Bag
+  given = inputs_in done node.inputs
+
+  abbrev owed : List Bag
+  owed = map (bag_at defined) node.inputs
+
+  long_found : length found ≡ length before
+  long_found = let one = length-map found (λ (bag : Bag). bag.width) in let all = length-widths_from [] before in
+      let same : length (map (λ bag. bag.width) found) ≡ length (widths_of before) = ap (λ (widths : List ℕ). length widths) so_far.widths in
+      omega (arith, one, all, same)
+
+  long_defined : length defined ≡ length before
+  long_defined = let all = length-bags_from files [] before in omega (arith, all)
+
+  each_gives : All (λ input. gives_rows before input ≡ true) node.inputs
+  each_gives = AllPass-from_list_all (gives_rows before) node.inputs sound.rows
+
+  pub earlier : All (λ input. input < length done) node.inputs
+  earlier k d lt =
+      let within : get_or node.inputs k d < length before = gives_within before (get_or node.inputs k d) (each_gives k d lt) in
+      let same = length-map done as_bag in let long = long_found in omega (arith, within, same, long)
+
+  given_widths : map (λ bag. bag.width) given ≡ input_widths (widths_of before) node.inputs
+  given_widths = widths_are found node.inputs ∙ ap (λ (widths : List ℕ). input_widths widths node.inputs) so_far.widths
+
+  pub good : IsGood node.op given
+  good = record {
+    number = ap (takes node.op) (length-map node.inputs (bag_at found)) ∙ sound.number;
+    columns = ap (columns_fit node.op) given_widths ∙ sound.columns;
+    agree = ap (widths_agree node.op) given_widths ∙ sound.agree;
+    narrow = subst (λ (widths : List ℕ). All (λ width. width ≤ 256) widths) (sym given_widths)
+        (All-map (λ width. width ≤ 256) (λ input. get_or (widths_of before) input 0) node.inputs (λ k d lt. narrow_at (widths_of before) so_far.narrow (get_or node.inputs k d)));
+    wide = subst (λ (widths : List ℕ). width_of node.op widths ≤ 256) (sym given_widths) (leb-true (width_of node.op (input_widths (widths_of before) node.inputs)) 256 sound.wide);
+    fit = All-map HasItsWidth (bag_at found) node.inputs (λ k d lt. so_far.fit (get_or node.inputs k d) (each_gives k d lt));
+  }
+
+  inputs_alike : (place : ℕ) → Alike (bag_at given place) (bag_at owed place)
+  inputs_alike = along found defined node.inputs (λ k d lt. so_far.alike (get_or node.inputs k d) (each_gives k d lt))
+
+  -- the text with this node's section
+  pub text_more : committed_text files (before ++ node ∷ []) ≡ committed_text files before ++ sink_section node.op (bag_at given 0)
+  text_more =
+      ap (sink_sections (before ++ node ∷ [])) (bags_of-more files before node)
+      ∙ sections-more before defined node (bag_of files node.op owed) long_defined
+      ∙ ap (λ (section : List ℕ). committed_text files before ++ section)
+      (section_of files node.op owed ∙ section_same node.op (bag_at owed 0) (bag_at given 0) (same_sym (inputs_alike 0).rows))
+
+  module _ (made : NodeRows) (width : made.width ≡ width_of node.op (map (λ bag. bag.width) given))
+      (rows : IsTrue (not (is_sink node.op)) → SameBag made.rows (bag_of files node.op given).rows) where
+    made_width : made.width ≡ (bag_of files node.op given).width
+    made_width = width ∙ sym (bag_width files node.op given)
+
+    made_alike : not (is_sink node.op) ≡ true → Alike (as_bag made) (bag_of files node.op owed)
+    made_alike gives = alike_on (as_bag made) (bag_of files node.op given) (bag_of files node.op owed)
+        (record { width = made_width; rows = rows gives }) (by_bags files node.op given owed inputs_alike)
+
+    made_fits : not (is_sink node.op) ≡ true → HasItsWidth (as_bag made)
+    made_fits gives =
+        let bag = bag_of files node.op given in
+        subst (λ (width : ℕ). All (λ row. length row ≡ width) made.rows) (sym made_width)
+        (All-permutation (λ row. length row ≡ bag.width) bag.rows made.rows (permutation_of_same bag.rows made.rows (same_sym (rows gives))) (bag_wide files node.op given good))
+
+    found_more : map as_bag (done ++ made ∷ []) ≡ found ++ as_bag made ∷ []
+    found_more = map-append as_bag done (made ∷ [])
+
+    more_widths : map (λ bag. bag.width) (map as_bag (done ++ made ∷ [])) ≡ widths_of (before ++ node ∷ [])
+    more_widths =
+        ap (λ (bags : List Bag). map (λ bag. bag.width) bags) found_more
+        ∙ map-append (λ (bag : Bag). bag.width) found (as_bag made ∷ [])
+        ∙ (λ i. so_far.widths i ++ (width ∙ ap (width_of node.op) given_widths) i ∷ [])
+        ∙ sym (widths_of-more before node)
+
+    more_narrow : All (λ width. width ≤ 256) (widths_of (before ++ node ∷ []))
+    more_narrow =
+        let last = width_of node.op (input_widths (widths_of before) node.inputs) in
+        subst (λ (widths : List ℕ). All (λ width. width ≤ 256) widths) (sym (widths_of-more before node))
+        (All-append (λ width. width ≤ 256) (widths_of before) (last ∷ []) so_far.narrow (one_narrow last (leb-true last 256 sound.wide)))
+
+    more_alike : (place : ℕ) → gives_rows (before ++ node ∷ []) place ≡ true
+        → Alike (bag_at (found ++ as_bag made ∷ []) place) (bag_at (defined ++ bag_of files node.op owed ∷ []) place)
+    more_alike place gives = elim (gives-more before node place gives) [
+      | inl old ↦
+          let lt : place < length before = gives_within before place old in
+          let one = old_at found (as_bag made) place (let long = long_found in omega (arith, lt, long)) in
+          let two = old_at defined (bag_of files node.op owed) place (let long = long_defined in omega (arith, lt, long)) in
+          subst (λ (bag : Bag). Alike bag (bag_at (defined ++ bag_of files node.op owed ∷ []) place)) (sym one)
+          (subst (λ (bag : Bag). Alike (bag_at found place) bag) (sym two) (so_far.alike place old))
+      | inr new ↦
+          let one = new_at found (as_bag made) place (new.0 ∙ sym long_found) in
+          let two = new_at defined (bag_of files node.op owed) place (new.0 ∙ sym long_defined) in
+          subst (λ (bag : Bag). Alike bag (bag_at (defined ++ bag_of files node.op owed ∷ []) place)) (sym one)
+          (subst (λ (bag : Bag). Alike (as_bag made) bag) (sym two) (made_alike new.1))
+    ]
+
+    more_fit : (place : ℕ) → gives_rows (before ++ node ∷ []) place ≡ true → HasItsWidth (bag_at (found ++ as_bag made ∷ []) place)
+    more_fit place gives = elim (gives-more before node place gives) [
+      | inl old ↦
+          let lt : place < length before = gives_within before place old in
+          subst HasItsWidth (sym (old_at found (as_bag made) place (let long = long_found in omega (arith, lt, long)))) (so_far.fit place old)
+      | inr new ↦ subst HasItsWidth (sym (new_at found (as_bag made) place (new.0 ∙ sym long_found))) (made_fits new.1)
+    ]
+
+    pub one_more : IsEvaluated files (before ++ node ∷ []) (done ++ made ∷ [])
+    one_more = record {
+      widths = more_widths;
+      narrow = more_narrow;
+      alike = λ place gives. subst (λ (bags : List Bag). Alike (bag_at (map as_bag (done ++ made ∷ [])) place) (bag_at bags place)) (sym (bags_of-more files before node))
+          (subst (λ (bags : List Bag). Alike (bag_at bags place) (bag_at (defined ++ bag_of files node.op owed ∷ []) place)) (sym found_more) (more_alike place gives));
+      fit = λ place gives. subst (λ (bags : List Bag). HasItsWidth (bag_at bags place)) (sym found_more) (more_fit place gives);
+    }

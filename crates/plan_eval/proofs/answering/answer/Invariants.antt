@@ -1,0 +1,14 @@
+use Rattle.std.proofs.Common.{◌≡◌, None, take}
+use Rattle.plan_model.specs.Checks.{node_kinds}
+use Rattle.plan_model.specs.Plans.{committed_text}
+use Rattle.plan_model.proofs.Told.{from}
+use Rattle.plan_eval.specs.Tables.{files_of}
+use Rattle.plan_eval.proofs.Steps.{IsEvaluated}
+use Rattle.plan_eval.proofs.answering.answer.Given as goal
+
+abbrev pub invariant-loop-node : goal.invariant-loop-node
+invariant-loop-node l = record {
+  told : from node_kinds l.nodes l.node-index ≡ None;
+  evaluated : IsEvaluated (files_of l.tables) (take l.node-index l.nodes) l.done.items;
+  written : l.text ≡ committed_text (files_of l.tables) (take l.node-index l.nodes);
+}
