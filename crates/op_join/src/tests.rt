@@ -157,12 +157,12 @@ fn many_rows_are_joined_quickly(rt: HostRuntime) -> Result<(), Fail> {
     let alloc = rt.alloc();
     let keys = KeyPairs::from_vec(vec![in alloc; (0, 0)]?);
     let widths = Widths { left: 1, right: 1 };
-    let each = numbered(alloc, 20000, 20000)?;
-    let same = numbered(alloc, 20000, 1)?;
+    let each = numbered(alloc, 200_000, 200_000)?;
+    let same = numbered(alloc, 100_000, 1)?;
     let few = numbered(alloc, 10, 1)?;
     let pairs = join(alloc, JoinKind::Inner, &keys, widths, &each, &each)?;
-    assert_eq!(rt; pairs.len(), 20000);
+    assert_eq!(rt; pairs.len(), 200_000);
     let many = join(alloc, JoinKind::Full, &keys, widths, &same, &few)?;
-    assert_eq!(rt; many.len(), 200000);
+    assert_eq!(rt; many.len(), 1_000_000);
     Ok(())
 }
