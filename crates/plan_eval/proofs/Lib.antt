@@ -1,4 +1,5 @@
 pub mod Alikes
+pub mod Defined
 pub mod Operated
 pub mod Sound
 pub mod Steps

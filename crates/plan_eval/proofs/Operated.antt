@@ -1,5 +1,5 @@
 -- What an operator gives on the rows of its inputs is the definition's bag.
-use Rattle.std.proofs.Common.{◌≡◌, ℕ, ◌<◌, Bool, true, false, Bor, List, [], ◌∷◌, length, map, get_or, All, IsTrue, IsTrue, refl, sym, subst, ◌∙◌, ap, arith, eqb-true}
+use Rattle.std.proofs.Common.{◌≡◌, ℕ, ◌<◌, Bool, true, false, Bor, List, [], ◌∷◌, length, map, get_or, All, IsTrue, refl, sym, subst, ◌∙◌, ap, arith, eqb-true}
 use Rattle.std.proofs.lemmas.List.{length-map, get_or-map}
 use Rattle.row_core.specs.Bags.{SameBag}
 use Rattle.row_core.specs.declared.bytes.Bytes.{Bytes}

@@ -38,14 +38,14 @@ length-widths_from widths (node ∷ nodes) =
     omega (arith, rest, more)
 
 module _ (files : List ℕ → List (List ℕ)) where
-  bags_from-append : (bags : List Bag) (before nodes : List Node) → bags_from files bags (before ++ nodes) ≡ bags_from files (bags_from files bags before) nodes
+  pub bags_from-append : (bags : List Bag) (before nodes : List Node) → bags_from files bags (before ++ nodes) ≡ bags_from files (bags_from files bags before) nodes
   bags_from-append bags [] nodes = refl
   bags_from-append bags (node ∷ before) nodes = bags_from-append (bags ++ bag_of files node.op (map (bag_at bags) node.inputs) ∷ []) before nodes
 
   bags_of-more : (before : List Node) (node : Node) → bags_of files (before ++ node ∷ []) ≡ bags_of files before ++ bag_of files node.op (map (bag_at (bags_of files before)) node.inputs) ∷ []
   bags_of-more before node = bags_from-append [] before (node ∷ [])
 
-  length-bags_from : (bags : List Bag) (nodes : List Node) → length (bags_from files bags nodes) ≡ length bags + length nodes
+  pub length-bags_from : (bags : List Bag) (nodes : List Node) → length (bags_from files bags nodes) ≡ length bags + length nodes
   length-bags_from bags [] = omega arith
   length-bags_from bags (node ∷ nodes) =
       let rest = length-bags_from (bags ++ bag_of files node.op (map (bag_at bags) node.inputs) ∷ []) nodes in
@@ -74,10 +74,10 @@ section_of files (Sink name) inputs = refl
 
 -- ---- lists that grow by one
 
-old_at : (bags : List Bag) (bag : Bag) (place : ℕ) → place < length bags → bag_at (bags ++ bag ∷ []) place ≡ bag_at bags place
+pub old_at : (bags : List Bag) (bag : Bag) (place : ℕ) → place < length bags → bag_at (bags ++ bag ∷ []) place ≡ bag_at bags place
 old_at bags bag place lt = get_or_append_left bags (bag ∷ []) empty_bag place lt
 
-new_at : (bags : List Bag) (bag : Bag) (place : ℕ) → place ≡ length bags → bag_at (bags ++ bag ∷ []) place ≡ bag
+pub new_at : (bags : List Bag) (bag : Bag) (place : ℕ) → place ≡ length bags → bag_at (bags ++ bag ∷ []) place ≡ bag
 new_at bags bag place is = ap (bag_at (bags ++ bag ∷ [])) is ∙ get_or-append_seam bags bag [] empty_bag
 
 gives-more : (before : List Node) (node : Node) (place : ℕ) → gives_rows (before ++ node ∷ []) place ≡ true
@@ -96,7 +96,7 @@ narrow_at [] narrow place = omega arith
 narrow_at (width ∷ widths) narrow zero = narrow 0 width (omega arith)
 narrow_at (width ∷ widths) narrow (suc place) = narrow_at widths (λ k d lt. narrow (suc k) d (omega (arith, lt))) place
 
-widths_are : (bags : List Bag) (inputs : List ℕ) → map (λ bag. bag.width) (map (bag_at bags) inputs) ≡ input_widths (map (λ bag. bag.width) bags) inputs
+pub widths_are : (bags : List Bag) (inputs : List ℕ) → map (λ bag. bag.width) (map (bag_at bags) inputs) ≡ input_widths (map (λ bag. bag.width) bags) inputs
 widths_are bags [] = refl
 widths_are bags (input ∷ inputs) = λ i. width_at bags input i ∷ widths_are bags inputs i
 

@@ -1,9 +1,11 @@
 -- The rows of nodes as they are found, beside the bags of the definition.
-use Rattle.std.specs.Prelude.{◌≡◌, ℕ, ◌≤◌, List, length, map, All, IsTrue}
+use Rattle.std.specs.Prelude.{◌≡◌, ℕ, ◌≤◌, Bool, false, List, length, map, slice_get, All, IsTrue}
+use Rattle.std.specs.Option.{option_map_or}
 use Rattle.row_core.specs.Bags.{SameBag}
-use Rattle.plan_model.specs.Checks.{takes, columns_fit, widths_agree}
+use Rattle.plan_model.specs.Checks.{is_sink, takes, columns_fit, widths_agree}
 use Rattle.plan_model.specs.Plans.{Bag, bag_at}
 use Rattle.plan_model.specs.Widths.{width_of}
+use Rattle.plan_model.specs.declared.node.Node.{Node}
 use Rattle.plan_model.specs.declared.op.Op.{Op}
 use Rattle.plan_eval.specs.declared.node_rows.NodeRows.{NodeRows}
 
@@ -31,3 +33,7 @@ pub record IsGood (op : Op) (inputs : List Bag) : Type 0 where
   pub narrow : All (λ width. width ≤ 256) (map (λ bag. bag.width) inputs)
   pub wide : width_of op (map (λ bag. bag.width) inputs) ≤ 256
   pub fit : All HasItsWidth inputs
+
+-- a place of a sink
+abbrev pub sink_at : List Node → ℕ → Bool
+sink_at nodes place = option_map_or (λ node. is_sink node.op) (slice_get nodes place) false

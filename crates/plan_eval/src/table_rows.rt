@@ -47,7 +47,7 @@ pub fn files_in<'a>(tables: &'a [TableFiles], name: &Bytes) -> Option<&'a Files>
 {
     for table in tables {
         if table.table.equals(name) {
-            return Some(&table.files);
+            return Some(&table.rows);
         }
     }
     None

@@ -62,7 +62,7 @@ fn table(alloc: Global, name: &str, files: &[&str]) -> Result<TableFiles, NoMemo
     }
     Ok(TableFiles {
         table: Bytes::from_slice(alloc, name.as_bytes())?,
-        files: Files::from_vec(contents),
+        rows: Files::from_vec(contents),
     })
 }
 
@@ -225,7 +225,7 @@ fn daily_orders(alloc: Global) -> Result<TableFiles, NoMemory> {
     }
     Ok(TableFiles {
         table: Bytes::from_slice(alloc, b"orders")?,
-        files: Files::from_vec(files),
+        rows: Files::from_vec(files),
     })
 }
 
@@ -242,7 +242,7 @@ fn daily_cities(alloc: Global) -> Result<TableFiles, NoMemory> {
     }
     Ok(TableFiles {
         table: Bytes::from_slice(alloc, b"cities")?,
-        files: Files::from_vec(files),
+        rows: Files::from_vec(files),
     })
 }
 

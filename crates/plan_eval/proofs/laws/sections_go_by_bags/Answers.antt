@@ -1,4 +1,4 @@
-use Rattle.plan_eval.proofs.Texts.{lines_same, section_same}
+use Rattle.plan_eval.proofs.Texts.{lines_same, section_same, texts_same}
 use Rattle.plan_eval.proofs.laws.sections_go_by_bags.Goals as goal
 
 pub returns-clause-lines : goal.returns-clause-lines
@@ -6,3 +6,6 @@ returns-clause-lines c = lines_same
 
 pub returns-clause-section : goal.returns-clause-section
 returns-clause-section c = section_same
+
+pub returns-clause-text : goal.returns-clause-text
+returns-clause-text c = texts_same
