@@ -1,0 +1,17 @@
+//! The texts that the commands `check` and `plan` print of a plan that was accepted: how large it is, and
+//! its vertices in the order in which they are made.
+//!
+//! `check` prints one line, `ok nodes=6 sinks=1`. `plan` prints a line for each vertex:
+//! `vertex 2 nodes=3 in=1:hash,2:hash out=4:hash`.
+#![tactic(auto)]
+
+mod checked;
+mod lines;
+mod making;
+mod parts;
+mod planned;
+#[cfg(test)]
+mod tests;
+
+pub use checked::check_text;
+pub use planned::plan_text;

@@ -1,0 +1,228 @@
+use crate::{check_text, plan_text};
+use plan_model::{
+    Agg, Aggs, Column, Exprs, JoinKind, KeyPairs, Kind, Node, Op, Plan, PlanError, Schema, Setting,
+    Settings, check_plan,
+};
+use row_core::{Bytes, Columns, Expr, NoMemory, Pred};
+use std::alloc::{AllocError, Global};
+use std::test::Fail;
+
+// An operator in short: a source by its number of columns, a filter by the column that it looks at, a
+// project and an aggregate by the columns that they show or count by.
+#[derive(Clone, Copy)]
+enum Short {
+    Source(u32),
+    Filter(u32),
+    Project(&'static [u32]),
+    Union,
+    Aggregate(&'static [u32], u32),
+    Distinct,
+    Join(JoinKind, &'static [(u32, u32)]),
+    Sink(&'static str),
+}
+
+type ShortNode = (Short, &'static [u32], bool);
+
+fn bytes(alloc: Global, text: &str) -> Result<Bytes, NoMemory> {
+    Bytes::from_slice(alloc, text.as_bytes())
+}
+
+fn schema(alloc: Global, columns: u32) -> Result<Schema, NoMemory> {
+    let mut made = Vec::new(alloc);
+    for _ in 0..columns {
+        made.push(Column {
+            name: bytes(alloc, "c")?,
+            kind: Kind::IntKind,
+        })?;
+    }
+    Ok(Schema::from_vec(made))
+}
+
+fn exprs(alloc: Global, columns: &[u32]) -> Result<Exprs, NoMemory> {
+    let mut made = Vec::new(alloc);
+    for column in columns {
+        made.push(Expr::Col(*column))?;
+    }
+    Ok(Exprs::from_vec(made))
+}
+
+fn counts(alloc: Global, number: u32) -> Result<Aggs, NoMemory> {
+    let mut made = Vec::new(alloc);
+    for _ in 0..number {
+        made.push(Agg::Count)?;
+    }
+    Ok(Aggs::from_vec(made))
+}
+
+fn op(alloc: Global, short: Short) -> Result<Op, NoMemory> {
+    Ok(match short {
+        Short::Source(columns) => Op::Source {
+            table: bytes(alloc, "t")?,
+            columns: schema(alloc, columns)?,
+        },
+        Short::Filter(column) => Op::Filter {
+            test: Pred::IsNull(Expr::Col(column)),
+        },
+        Short::Project(columns) => Op::Project {
+            exprs: exprs(alloc, columns)?,
+        },
+        Short::Union => Op::Union,
+        Short::Aggregate(keys, aggs) => Op::Aggregate {
+            keys: Columns::from_vec(keys.to_vec(alloc)?),
+            aggs: counts(alloc, aggs)?,
+        },
+        Short::Distinct => Op::Distinct,
+        Short::Join(kind, keys) => Op::Join {
+            kind,
+            keys: KeyPairs::from_vec(keys.to_vec(alloc)?),
+        },
+        Short::Sink(name) => Op::Sink {
+            name: bytes(alloc, name)?,
+        },
+    })
+}
+
+fn plan(alloc: Global, nodes: &[ShortNode]) -> Result<Plan, NoMemory> {
+    let mut made = Vec::new(alloc);
+    for (short, inputs, rebalance) in nodes {
+        made.push(Node {
+            op: op(alloc, *short)?,
+            inputs: Columns::from_vec(inputs.to_vec(alloc)?),
+            rebalance: *rebalance,
+        })?;
+    }
+    Ok(Plan::from_vec(made))
+}
+
+// What is printed of a plan: the texts of `check` and of `plan`, one after the other.
+fn printed(alloc: Global, shown: &Shown) -> Result<Bytes, NoMemory> {
+    let plan = plan(alloc, shown.nodes)?;
+    if plan.as_slice().len() > 100 {
+        return Bytes::from_slice(alloc, b"long");
+    }
+    let good = match check_plan(alloc, plan) {
+        Ok(good) => good,
+        Err(PlanError::NoMemory) => return Err(AllocError),
+        Err(PlanError::Fault(_)) => return Bytes::from_slice(alloc, b"fault"),
+    };
+    let mut settings = Settings::defaults();
+    let _ = settings.set(Setting::MaxParallelism, shown.cells);
+    let mut text = check_text(alloc, &good)?;
+    let lines = plan_text(alloc, &good, &settings)?;
+    text.extend(lines.as_slice())?;
+    Ok(text)
+}
+
+struct Shown {
+    nodes: &'static [ShortNode],
+    cells: u64,
+    text: &'static str,
+}
+
+const FILTERED: &[ShortNode] = &[
+    (Short::Source(3), &[], false),
+    (Short::Filter(2), &[0], false),
+    (Short::Sink("out"), &[1], false),
+];
+
+const REBALANCED: &[ShortNode] = &[
+    (Short::Source(1), &[], false),
+    (Short::Filter(0), &[0], true),
+    (Short::Sink("out"), &[1], false),
+];
+
+const GENERATED: &[ShortNode] = &[
+    (Short::Source(3), &[], false),
+    (Short::Filter(2), &[0], false),
+    (Short::Source(2), &[], false),
+    (Short::Join(JoinKind::Inner, &[(1, 0)]), &[1, 2], false),
+    (Short::Aggregate(&[4], 2), &[3], false),
+    (Short::Sink("totals"), &[4], false),
+];
+
+const DAILY: &[ShortNode] = &[
+    (Short::Source(3), &[], false),
+    (Short::Filter(2), &[0], false),
+    (Short::Project(&[1, 2]), &[1], false),
+    (Short::Source(2), &[], false),
+    (Short::Join(JoinKind::Left, &[(0, 0)]), &[2, 3], false),
+    (Short::Aggregate(&[3], 2), &[4], false),
+    (Short::Sink("totals"), &[5], false),
+    (Short::Aggregate(&[0], 1), &[2], false),
+    (Short::Sink("largest"), &[7], false),
+];
+
+// A source with four consumers, a union that takes it twice and a filter spread anew, and a distinct that a
+// sink and a join with itself take.
+const SHARED: &[ShortNode] = &[
+    (Short::Source(2), &[], false),
+    (Short::Filter(0), &[0], false),
+    (Short::Filter(1), &[0], true),
+    (Short::Union, &[0, 2, 0], false),
+    (Short::Distinct, &[3], false),
+    (
+        Short::Join(JoinKind::Full, &[(0, 1), (1, 1)]),
+        &[4, 4],
+        false,
+    ),
+    (Short::Sink("pairs"), &[5], true),
+    (Short::Sink("kept"), &[1], false),
+    (Short::Sink("once"), &[4], false),
+];
+
+const SHOWN: &[Shown] = &[
+    Shown {
+        nodes: FILTERED,
+        cells: 16,
+        text: "ok nodes=3 sinks=1\n\
+            vertex 0 nodes=0,1,2 in=files out=sink\n",
+    },
+    Shown {
+        nodes: REBALANCED,
+        cells: 2,
+        text: "ok nodes=3 sinks=1\n\
+            vertex 0 nodes=0 in=files out=1:rebalance\n\
+            vertex 1 nodes=1,2 in=0:rebalance out=sink\n",
+    },
+    Shown {
+        nodes: GENERATED,
+        cells: 8,
+        text: "ok nodes=6 sinks=1\n\
+            vertex 0 nodes=0,1 in=files out=3:hash\n\
+            vertex 1 nodes=2 in=files out=3:hash\n\
+            vertex 2 nodes=3 in=1:hash,2:hash out=4:hash\n\
+            vertex 3 nodes=4,5 in=3:hash out=sink\n",
+    },
+    Shown {
+        nodes: DAILY,
+        cells: 16,
+        text: "ok nodes=9 sinks=2\n\
+            vertex 0 nodes=0,1,2 in=files out=4:hash,7:hash\n\
+            vertex 1 nodes=3 in=files out=4:hash\n\
+            vertex 2 nodes=7,8 in=2:hash out=sink\n\
+            vertex 3 nodes=4 in=2:hash,3:hash out=5:hash\n\
+            vertex 4 nodes=5,6 in=4:hash out=sink\n",
+    },
+    Shown {
+        nodes: SHARED,
+        cells: 3,
+        text: "ok nodes=9 sinks=3\n\
+            vertex 0 nodes=0 in=files out=1:forward,2:rebalance,3:rebalance,3:rebalance\n\
+            vertex 1 nodes=1,7 in=0:forward out=sink\n\
+            vertex 2 nodes=2 in=0:rebalance out=3:rebalance\n\
+            vertex 3 nodes=3 in=0:rebalance,2:rebalance,0:rebalance out=4:hash\n\
+            vertex 4 nodes=4 in=3:hash out=5:hash,5:hash,8:forward\n\
+            vertex 5 nodes=5 in=4:hash,4:hash out=6:rebalance\n\
+            vertex 6 nodes=8 in=4:forward out=sink\n\
+            vertex 7 nodes=6 in=5:rebalance out=sink\n",
+    },
+];
+
+#[test]
+fn texts_of_plans(rt: HostRuntime) -> Result<(), Fail> {
+    for shown in SHOWN {
+        let text = printed(rt.alloc(), shown)?;
+        assert_eq!(rt; text.as_slice(), shown.text.as_bytes());
+    }
+    Ok(())
+}
