@@ -6,6 +6,7 @@
 #![tactic(auto)]
 
 mod checked;
+mod laws;
 mod lines;
 mod making;
 mod parts;
@@ -14,4 +15,5 @@ mod planned;
 mod tests;
 
 pub use checked::check_text;
+pub use laws::each_head_is_made;
 pub use planned::plan_text;

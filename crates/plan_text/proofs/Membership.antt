@@ -1,0 +1,198 @@
+-- What stands in a list of numbers or edges.
+use Rattle.std.proofs.Common.{◌≡◌, ℕ, zero, suc, ◌+◌, ◌<◌, ◌≤◌, nat_eq, nat_lt, Bool, true, false, not, ◌&&◌, ◌||◌, cond, ◌⊎◌, inl, inr, List, [], ◌∷◌, ◌++◌, length, filter, get_or, refl, sym, ◌∙◌, ap, subst, arith}
+use Rattle.std.specs.List.{list_all, flat_map, range_with_len, AllByRecursion, IsDistinct}
+use Rattle.std.proofs.lemmas.Bool.{false≢true}
+use Rattle.std.proofs.lemmas.Bool.Decides.{nat_tests}
+use Rattle.std.proofs.lemmas.List.Folds.{list_any-append}
+use Rattle.std.proofs.lemmas.List.FromFn.{get_or-range_with_len, length-range_with_len}
+use Rattle.std.proofs.lemmas.Map.Keys.{IsDistinct-head, IsDistinct-tail, IsDistinct-cons, IsDistinct-from_apart}
+use Rattle.vertex_builder.specs.Vertices.{is_among}
+
+-- ---- tests of numbers
+
+pub same_yes : (n : ℕ) → nat_eq n n ≡ true
+same_yes n = grind (arith, nat_tests)
+
+pub same_number : (m n : ℕ) → nat_eq m n ≡ true → m ≡ n
+same_number m n e = grind (arith, nat_tests)
+
+other_number : (m n : ℕ) → m < n → nat_eq m n ≡ false
+other_number m n lt = grind (arith, nat_tests)
+
+flipped : (m n : ℕ) → nat_eq m n ≡ false → nat_eq n m ≡ false
+flipped m n e = grind (arith, nat_tests)
+
+pub below_yes : (m n : ℕ) → m < n → nat_lt m n ≡ true
+below_yes m n lt = grind (arith, nat_tests)
+
+pub below_is : (m n : ℕ) → nat_lt m n ≡ true → m < n
+below_is m n e = grind (arith, nat_tests)
+
+-- ---- truth values
+
+pub either_right : (a b : Bool) → b ≡ true → (a || b) ≡ true
+either_right true b e = refl
+either_right false b e = e
+
+pub either_left : (a b : Bool) → a ≡ true → (a || b) ≡ true
+either_left true b e = refl
+either_left false b e = absurd (false≢true e)
+
+pub neither_left : (a b : Bool) → (a || b) ≡ false → a ≡ false
+neither_left true b e = e
+neither_left false b e = refl
+
+pub neither_right : (a b : Bool) → (a || b) ≡ false → b ≡ false
+neither_right true b e = absurd (false≢true (sym e))
+neither_right false b e = e
+
+pub both_left : (a b : Bool) → (a && b) ≡ true → a ≡ true
+both_left true b e = refl
+both_left false b e = e
+
+pub both_right : (a b : Bool) → (a && b) ≡ true → b ≡ true
+both_right true b e = e
+both_right false b e = absurd (false≢true e)
+
+-- ---- each item of a list
+
+pub all_map : {X : Type 0} (P Q : X → Type 0) (xs : List X) → AllByRecursion P xs → ((x : X) → P x → Q x) → AllByRecursion Q xs
+all_map P Q [] h f = tt
+all_map P Q (x ∷ xs) h f = (f x h.0, all_map P Q xs h.1 f)
+
+all_append : {X : Type 0} (P : X → Type 0) (xs ys : List X) → AllByRecursion P xs → AllByRecursion P ys → AllByRecursion P (xs ++ ys)
+all_append P [] ys h i = i
+all_append P (x ∷ xs) ys h i = (h.0, all_append P xs ys h.1 i)
+
+all_filter : {X : Type 0} (P : X → Type 0) (p : X → Bool) (xs : List X) → AllByRecursion P xs → AllByRecursion P (filter p xs)
+all_filter P p [] h = tt
+all_filter P p (x ∷ xs) h = at (p x) (all_filter P p xs h.1)
+  where
+    at : (b : Bool) → AllByRecursion P (filter p xs) → AllByRecursion P (cond b (x ∷ filter p xs) (filter p xs))
+    at true rest = (h.0, rest)
+    at false rest = rest
+
+pub all_yes : (p : ℕ → Bool) (xs : List ℕ) → AllByRecursion (λ x. p x ≡ true) xs → list_all p xs ≡ true
+all_yes p [] h = refl
+all_yes p (x ∷ xs) h = ap (λ (b : Bool). b && list_all p xs) h.0 ∙ all_yes p xs h.1
+
+-- ---- no number twice
+
+pub distinct_append : (xs ys : List ℕ) → IsDistinct nat_eq xs → IsDistinct nat_eq ys → AllByRecursion (λ y. is_among xs y ≡ false) ys → IsDistinct nat_eq (xs ++ ys)
+distinct_append [] ys dx dy apart = dy
+distinct_append (x ∷ xs) ys dx dy apart =
+    IsDistinct-cons nat_eq x (xs ++ ys)
+    (all_append (λ y. nat_eq x y ≡ false) xs ys (IsDistinct-head nat_eq x xs dx)
+    (all_map (λ y. is_among (x ∷ xs) y ≡ false) (λ y. nat_eq x y ≡ false) ys apart (λ y e. flipped y x (neither_left (nat_eq y x) (is_among xs y) e))))
+    (distinct_append xs ys (IsDistinct-tail nat_eq x xs dx) dy
+    (all_map (λ y. is_among (x ∷ xs) y ≡ false) (λ y. is_among xs y ≡ false) ys apart (λ y e. neither_right (nat_eq y x) (is_among xs y) e)))
+
+pub distinct_filter : (p : ℕ → Bool) (xs : List ℕ) → IsDistinct nat_eq xs → IsDistinct nat_eq (filter p xs)
+distinct_filter p [] d = d
+distinct_filter p (x ∷ xs) d = at (p x) (distinct_filter p xs (IsDistinct-tail nat_eq x xs d))
+  where
+    at : (b : Bool) → IsDistinct nat_eq (filter p xs) → IsDistinct nat_eq (cond b (x ∷ filter p xs) (filter p xs))
+    at true rest = IsDistinct-cons nat_eq x (filter p xs) (all_filter (λ y. nat_eq x y ≡ false) p xs (IsDistinct-head nat_eq x xs d)) rest
+    at false rest = rest
+
+pub distinct_range : (n : ℕ) → IsDistinct nat_eq (range_with_len 0 n)
+distinct_range n = IsDistinct-from_apart nat_eq (range_with_len 0 n) (λ i j d lt below.
+    let inside : j < n = omega (arith, below, length-range_with_len 0 n) in
+    let left : get_or (range_with_len 0 n) i d ≡ 0 + i = get_or-range_with_len 0 n i d (omega (arith, lt, inside)) in
+    let right : get_or (range_with_len 0 n) j d ≡ 0 + j = get_or-range_with_len 0 n j d inside in
+    (λ k. nat_eq (left k) (right k)) ∙ other_number (0 + i) (0 + j) (omega (arith, lt)))
+
+-- ---- numbers in a row
+
+range_has : (a n q : ℕ) → a ≤ q → q < a + n → is_among (range_with_len a n) q ≡ true
+range_has a zero q low high = absurd (omega (arith, low, high))
+range_has a (suc n) q low high = at (nat_eq q a) refl (range_has (a + 1) n q)
+  where
+    at : (b : Bool) → nat_eq q a ≡ b → (a + 1 ≤ q → q < a + 1 + n → is_among (range_with_len (a + 1) n) q ≡ true) → is_among (range_with_len a (suc n)) q ≡ true
+    at true is rest = either_left (nat_eq q a) (is_among (range_with_len (a + 1) n) q) is
+    at false is rest = either_right (nat_eq q a) (is_among (range_with_len (a + 1) n) q) (rest (later a q low is) (omega (arith, high)))
+      where
+        later : (a q : ℕ) → a ≤ q → nat_eq q a ≡ false → a + 1 ≤ q
+        later a q low is = grind (arith, nat_tests)
+
+pub has_below : (n q : ℕ) → q < n → is_among (range_with_len 0 n) q ≡ true
+has_below n q lt = range_has 0 n q (omega arith) (omega (arith, lt))
+
+range_ends : (a n q : ℕ) → is_among (range_with_len a n) q ≡ true → q < a + n
+range_ends a zero q e = absurd (false≢true e)
+range_ends a (suc n) q e = at (nat_eq q a) refl (range_ends (a + 1) n q)
+  where
+    at : (b : Bool) → nat_eq q a ≡ b → (is_among (range_with_len (a + 1) n) q ≡ true → q < a + 1 + n) → q < a + suc n
+    at true is rest = let here = same_number q a is in omega (arith, here)
+    at false is rest = let lt = rest (sym (ap (λ (b : Bool). b || is_among (range_with_len (a + 1) n) q) is) ∙ e) in omega (arith, lt)
+
+pub is_below : (n q : ℕ) → is_among (range_with_len 0 n) q ≡ true → q < n
+is_below n q e = let lt = range_ends 0 n q e in omega (arith, lt)
+
+-- ---- in pieces
+
+pub among_pieces : (f : ℕ → List ℕ) (xs : List ℕ) (x q : ℕ) → is_among xs x ≡ true → is_among (f x) q ≡ true → is_among (flat_map f xs) q ≡ true
+among_pieces f [] x q e here = absurd (false≢true e)
+among_pieces f (y ∷ ys) x q e here = list_any-append (nat_eq q) (f y) (flat_map f ys) ∙ at (nat_eq x y) refl (among_pieces f ys x q)
+  where
+    at : (b : Bool) → nat_eq x y ≡ b → (is_among ys x ≡ true → is_among (f x) q ≡ true → is_among (flat_map f ys) q ≡ true) → (is_among (f y) q || is_among (flat_map f ys) q) ≡ true
+    at true is rest = either_left (is_among (f y) q) (is_among (flat_map f ys) q) (ap (λ (n : ℕ). is_among (f n) q) (sym (same_number x y is)) ∙ here)
+    at false is rest = either_right (is_among (f y) q) (is_among (flat_map f ys) q) (rest (sym (ap (λ (b : Bool). b || is_among ys x) is) ∙ e) here)
+
+-- ---- items of any type
+
+module _ {X : Type 0} where
+  -- the item stands in the list
+  abbrev pub IsIn : X → List X → Type 0
+  IsIn x [] = ⊥
+  IsIn x (y ∷ ys) = (x ≡ y) ⊎ IsIn x ys
+
+  pub in_front : (x : X) (xs ys : List X) → IsIn x xs → IsIn x (xs ++ ys)
+  in_front x [] ys h = absurd h
+  in_front x (y ∷ xs) ys (inl e) = inl e
+  in_front x (y ∷ xs) ys (inr h) = inr (in_front x xs ys h)
+
+  pub in_back : (x : X) (xs ys : List X) → IsIn x ys → IsIn x (xs ++ ys)
+  in_back x [] ys h = h
+  in_back x (y ∷ xs) ys h = inr (in_back x xs ys h)
+
+  pub in_filter : (x : X) (p : X → Bool) (xs : List X) → p x ≡ true → IsIn x xs → IsIn x (filter p xs)
+  in_filter x p [] e h = h
+  in_filter x p (y ∷ xs) e (inl same) = at (p y) (sym (ap p same) ∙ e)
+    where
+      at : (b : Bool) → b ≡ true → IsIn x (cond b (y ∷ filter p xs) (filter p xs))
+      at true is = inl same
+      at false is = absurd (false≢true is)
+  in_filter x p (y ∷ xs) e (inr h) = at (p y) (in_filter x p xs e h)
+    where
+      at : (b : Bool) → IsIn x (filter p xs) → IsIn x (cond b (y ∷ filter p xs) (filter p xs))
+      at true rest = inr rest
+      at false rest = rest
+
+  pub in_one : (x : X) (xs : List X) → length xs ≡ 1 → IsIn x xs → xs ≡ x ∷ []
+  in_one x [] one h = absurd h
+  in_one x (y ∷ []) one (inl e) = ap (λ (z : X). z ∷ []) (sym e)
+  in_one x (y ∷ []) one (inr h) = absurd h
+  in_one x (y ∷ z ∷ xs) one h = absurd (omega (arith, one))
+
+  pub all_in : (P : X → Type 0) (x : X) (xs : List X) → AllByRecursion P xs → IsIn x xs → P x
+  all_in P x [] all h = absurd h
+  all_in P x (y ∷ xs) all (inl e) = at (sym e) all.0
+    where
+      at : y ≡ x → P y → P x
+      at is here = subst P is here
+  all_in P x (y ∷ xs) all (inr h) = all_in P x xs all.1 h
+
+  -- an item that passes a test
+  pub record PassingIn (p : X → Bool) (xs : List X) : Type 0 where
+    pub item : X
+    pub inside : IsIn item xs
+    pub passes : p item ≡ true
+
+  pub one_passes : (p : X → Bool) (xs : List X) → list_all (λ x. not (p x)) xs ≡ false → PassingIn p xs
+  one_passes p [] e = absurd (false≢true (sym e))
+  one_passes p (x ∷ xs) e = at (p x) refl (one_passes p xs) e
+    where
+      at : (b : Bool) → p x ≡ b → (list_all (λ y. not (p y)) xs ≡ false → PassingIn p xs) → (not b && list_all (λ y. not (p y)) xs) ≡ false → PassingIn p (x ∷ xs)
+      at true is rest says = record { item = x; inside = inl refl; passes = is }
+      at false is rest says = let found = rest says in record { item = found.item; inside = inr found.inside; passes = found.passes }
