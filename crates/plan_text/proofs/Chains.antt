@@ -2,7 +2,6 @@
 use Rattle.std.proofs.Common.{◌≡◌, ℕ, zero, suc, ◌+◌, ◌≤◌, ◌==◌, Bool, true, false, cond, All, List, [], ◌∷◌, length, find, get_or, Option, Some, None, slice_get, refl, sym, ◌∙◌, ap, arith}
 use Rattle.std.specs.List.{AllByRecursion}
 use Rattle.std.specs.Option.{option_map, option_map_or}
-use Rattle.std.proofs.lemmas.Bool.Decides.{nat_tests}
 use Rattle.std.proofs.lemmas.Option.{none-some}
 use Rattle.std.proofs.lemmas.List.Elements.{filter_passes, recursion_from_All}
 use Rattle.plan_model.specs.Checks.{plan_faults}
@@ -13,11 +12,9 @@ use Rattle.vertex_builder.specs.Links.{IsBelow}
 use Rattle.vertex_builder.specs.Vertices.{IsChain}
 use Rattle.vertex_builder.proofs.Chaining.{edges_rise}
 use Rattle.plan_text.specs.Making.{chain_from}
+use Rattle.plan_text.proofs.Membership.{same_number}
 
 -- ---- what is chained behind a node is later
-
-same_number : (m n : ℕ) → (m == n) ≡ true → m ≡ n
-same_number m n e = grind (arith, nat_tests)
 
 -- the edge leads from before the node to below the end
 abbrev LeadsOn : ℕ → ℕ → Edge → Type 0
@@ -30,15 +27,15 @@ edges_lead_on nodes node good = λ k d lt.
     let here : edge.from ≡ node = same_number edge.from node (filter_passes (λ (e : Edge). e.from == node) (edges_of nodes) k d lt) in
     record { above = omega (arith, rise.above, here); below = rise.below }
 
+same_item : (x y : ℕ) → Some x ≡ Some y → x ≡ y
+same_item x y e = ap (λ (o : Option ℕ). option_map_or (λ (k : ℕ). k) o 0) e
+
 found_leads_on : (p : Edge → Bool) (node end next : ℕ) (edges : List Edge) → AllByRecursion (LeadsOn node end) edges → option_map (λ (e : Edge). e.into) (find p edges) ≡ Some next → IsBelow node next end
 found_leads_on p node end next [] h e = absurd (none-some next e)
 found_leads_on p node end next (edge ∷ edges) h e = at (p edge) (found_leads_on p node end next edges h.1) e
   where
-    same : (m : ℕ) → Some m ≡ Some next → m ≡ next
-    same m is = ap (λ (o : Option ℕ). option_map_or (λ (k : ℕ). k) o 0) is
-
     at : (b : Bool) → (option_map (λ (e : Edge). e.into) (find p edges) ≡ Some next → IsBelow node next end) → option_map (λ (e : Edge). e.into) (cond b (Some edge) (find p edges)) ≡ Some next → IsBelow node next end
-    at true later is = let to = same edge.into is in record { above = omega (arith, h.0.above, to); below = omega (arith, h.0.below, to) }
+    at true later is = let to = same_item edge.into next is in record { above = omega (arith, h.0.above, to); below = omega (arith, h.0.below, to) }
     at false later is = later is
 
 pub chained_is_later : (nodes : List Node) (node next : ℕ) → plan_faults nodes ≡ [] → chained_after nodes node ≡ Some next → IsBelow node next (length nodes)
@@ -46,9 +43,6 @@ chained_is_later nodes node next good e =
     found_leads_on (is_chained nodes) node (length nodes) next (consumer_edges nodes node) (recursion_from_All (LeadsOn node (length nodes)) (consumer_edges nodes node) (edges_lead_on nodes node good)) e
 
 -- ---- chains
-
-same_item : (x y : ℕ) → Some x ≡ Some y → x ≡ y
-same_item x y e = ap (λ (o : Option ℕ). option_map_or (λ (k : ℕ). k) o 0) e
 
 rest_of_chain : (nodes : List Node) (head x y : ℕ) (rest : List ℕ) → IsChain nodes head (x ∷ y ∷ rest) → IsChain nodes y (y ∷ rest)
 rest_of_chain nodes head x y rest of = record {

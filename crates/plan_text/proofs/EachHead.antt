@@ -15,7 +15,8 @@ use Rattle.vertex_builder.specs.Edges.{is_head}
 use Rattle.vertex_builder.specs.Vertices.{is_among, inputs_at, is_makeable, makeable_heads}
 use Rattle.vertex_builder.proofs.Chaining.{no_node}
 use Rattle.vertex_builder.proofs.GoodNodes.{good_node}
-use Rattle.plan_text.specs.Making.{chain_of, nodes_of_vertices, heads_made, making_order, HasEachHead, EachHeadIsMade}
+use Rattle.plan_text.specs.Making.{chain_of, nodes_of_vertices, heads_made, making_order}
+use Rattle.plan_text.specs.OrderLaws.{HasEachHead, EachHeadIsMade}
 use Rattle.plan_text.proofs.Covered.{has_head}
 use Rattle.plan_text.proofs.Membership.{same_number, below_yes, below_is, both_left, both_right, all_map, all_yes, distinct_append, distinct_filter, distinct_range, has_below, is_below, among_pieces}
 use Rattle.plan_text.proofs.Rounds.{settles}
@@ -38,7 +39,7 @@ unset true true e f = absurd (false≢true (sym f))
 unset true false e f = absurd (false≢true e)
 unset false b e f = refl
 
-same_truth : (a b : Bool) → (a ≡ true → b ≡ true) → (b ≡ true → a ≡ true) → a ≡ b
+pub same_truth : (a b : Bool) → (a ≡ true → b ≡ true) → (b ≡ true → a ≡ true) → a ≡ b
 same_truth true b f g = sym (f refl)
 same_truth false true f g = g refl
 same_truth false false f g = refl
@@ -61,7 +62,7 @@ makeable_distinct : (nodes : List Node) (made complete : List ℕ) → IsDistinc
 makeable_distinct nodes made complete = distinct_filter (is_makeable nodes made complete) (range_with_len 0 (length nodes)) (distinct_range (length nodes))
 
 -- a node of the plan that is a head
-record IsHead (nodes : List Node) (q : ℕ) : Type 0 where
+pub record IsHead (nodes : List Node) (q : ℕ) : Type 0 where
   pub within : q < length nodes
   pub head : is_head nodes q ≡ true
 
@@ -76,11 +77,11 @@ makeable_is_head nodes made complete q e =
 
 -- ---- what all rounds make
 
-record AreHeads (nodes : List Node) (made : List ℕ) : Type 0 where
+pub record AreHeads (nodes : List Node) (made : List ℕ) : Type 0 where
   pub distinct : IsDistinct nat_eq made
   pub heads : (q : ℕ) → is_among made q ≡ true → IsHead nodes q
 
-are_heads : (nodes : List Node) (k : ℕ) → AreHeads nodes (heads_made nodes k)
+pub are_heads : (nodes : List Node) (k : ℕ) → AreHeads nodes (heads_made nodes k)
 are_heads nodes zero = record { distinct = makeable_distinct nodes [] []; heads = makeable_is_head nodes [] [] }
 are_heads nodes (suc k) = more (heads_made nodes k) (nodes_of_vertices nodes (take (suc k) (heads_made nodes k))) (are_heads nodes k)
   where
@@ -127,7 +128,7 @@ module _ (nodes : List Node) (good : plan_faults nodes ≡ []) where
       let P : List ℕ → Type 0 = AllByRecursion (λ input. input < q) in
       subst P (sym inputs) (recursion_from_All (λ input. input < q) here.inputs is_good.before)
 
-  made_below : (n q : ℕ) → q < n → q < length nodes → is_head nodes q ≡ true → is_among (making_order nodes) q ≡ true
+  pub made_below : (n q : ℕ) → q < n → q < length nodes → is_head nodes q ≡ true → is_among (making_order nodes) q ≡ true
   made_below zero q lt within head = absurd (omega (arith, lt))
   made_below (suc n) q lt within head = at (made_below n)
     where

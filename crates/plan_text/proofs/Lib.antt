@@ -3,6 +3,8 @@ pub mod Chains
 pub mod Commas
 pub mod Covered
 pub mod EachHead
+pub mod Inputs
 pub mod Membership
 pub mod Printed
 pub mod Rounds
+pub mod Shown

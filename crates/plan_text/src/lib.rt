@@ -15,5 +15,5 @@ mod planned;
 mod tests;
 
 pub use checked::check_text;
-pub use laws::each_head_is_made;
+pub use laws::{each_head_is_made, each_node_is_shown, inputs_come_before};
 pub use planned::plan_text;
