@@ -27,7 +27,7 @@ edges_lead_on nodes node good = λ k d lt.
     let here : edge.from ≡ node = same_number edge.from node (filter_passes (λ (e : Edge). e.from == node) (edges_of nodes) k d lt) in
     record { above = omega (arith, rise.above, here); below = rise.below }
 
-same_item : (x y : ℕ) → Some x ≡ Some y → x ≡ y
+pub same_item : (x y : ℕ) → Some x ≡ Some y → x ≡ y
 same_item x y e = ap (λ (o : Option ℕ). option_map_or (λ (k : ℕ). k) o 0) e
 
 found_leads_on : (p : Edge → Bool) (node end next : ℕ) (edges : List Edge) → AllByRecursion (LeadsOn node end) edges → option_map (λ (e : Edge). e.into) (find p edges) ≡ Some next → IsBelow node next end

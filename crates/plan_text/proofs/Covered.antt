@@ -19,11 +19,11 @@ use Rattle.plan_text.proofs.Membership.{same_yes, same_number, either_left, eith
 -- ---- edges of a node
 
 -- an edge into the node, from one of its inputs
-record GoesInto (node : ℕ) (inputs : List ℕ) (edge : Edge) : Type 0 where
+pub record GoesInto (node : ℕ) (inputs : List ℕ) (edge : Edge) : Type 0 where
   pub into : edge.into ≡ node
   pub from : IsIn edge.from inputs
 
-goes_into : (node place : ℕ) (inputs : List ℕ) (edge : Edge) → IsIn edge (edges_into node place inputs) → GoesInto node inputs edge
+pub goes_into : (node place : ℕ) (inputs : List ℕ) (edge : Edge) → IsIn edge (edges_into node place inputs) → GoesInto node inputs edge
 goes_into node place [] edge h = absurd h
 goes_into node place (input ∷ inputs) edge (inl e) = record { into = ap (λ (x : Edge). x.into) e; from = inl (ap (λ (x : Edge). x.from) e) }
 goes_into node place (input ∷ inputs) edge (inr h) = let rest = goes_into node (place + 1) inputs edge h in record { into = rest.into; from = inr rest.from }
@@ -38,7 +38,7 @@ in_edges_from place (node ∷ nodes) (suc k) at edge lt is h =
 
 -- ---- along a chain
 
-starts : (more : ℕ) (nodes : List Node) (node : ℕ) → is_among (chain_from more nodes node) node ≡ true
+pub starts : (more : ℕ) (nodes : List Node) (node : ℕ) → is_among (chain_from more nodes node) node ≡ true
 starts zero nodes node = either_left (nat_eq node node) false (same_yes node)
 starts (suc more) nodes node = either_left (nat_eq node node) (is_among (option_map_or (chain_from more nodes) (chained_after nodes node) []) node) (same_yes node)
 

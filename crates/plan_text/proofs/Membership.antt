@@ -16,7 +16,7 @@ same_yes n = grind (arith, nat_tests)
 pub same_number : (m n : ℕ) → nat_eq m n ≡ true → m ≡ n
 same_number m n e = grind (arith, nat_tests)
 
-other_number : (m n : ℕ) → m < n → nat_eq m n ≡ false
+pub other_number : (m n : ℕ) → m < n → nat_eq m n ≡ false
 other_number m n lt = grind (arith, nat_tests)
 
 flipped : (m n : ℕ) → nat_eq m n ≡ false → nat_eq n m ≡ false

@@ -10,6 +10,7 @@ use Rattle.vertex_builder.specs.Edges.{chained_after}
 use Rattle.vertex_builder.specs.Vertices.{is_among}
 use Rattle.plan_text.specs.Making.{chain_from, chain_of, nodes_of_vertices, making_order}
 use Rattle.plan_text.specs.OrderLaws.{EachNodeIsShown}
+use Rattle.plan_text.proofs.Apart.{shown_once}
 use Rattle.plan_text.proofs.Chains.{chained_is_later}
 use Rattle.plan_text.proofs.Covered.{has_head}
 use Rattle.plan_text.proofs.EachHead.{are_heads, made_below, same_truth}
@@ -41,8 +42,8 @@ pieces_within f n q (x ∷ xs) h e =
     (pieces_within f n q xs (λ y is. h y (either_right (nat_eq y x) (is_among xs y) is)))
     (sym (list_any-append (nat_eq q) (f x) (flat_map f xs)) ∙ e)
 
-pub each_node_is_shown : EachNodeIsShown
-each_node_is_shown nodes good q =
+all_shown : (nodes : List Node) → plan_faults nodes ≡ [] → (q : ℕ) → is_among (nodes_of_vertices nodes (making_order nodes)) q ≡ nat_lt q (length nodes)
+all_shown nodes good q =
     let made = making_order nodes in
     same_truth (is_among (nodes_of_vertices nodes made) q) (nat_lt q (length nodes))
     (λ e. below_yes q (length nodes) (pieces_within (chain_of nodes) (length nodes) q made
@@ -51,3 +52,6 @@ each_node_is_shown nodes good q =
     let of = has_head nodes good q (below_is q (length nodes) e) in
     let within : of.head < length nodes = let lt = below_is q (length nodes) e in omega (arith, of.before, lt) in
     among_pieces (chain_of nodes) made of.head q (made_below nodes good (suc of.head) of.head (omega arith) within of.is) of.inside)
+
+pub each_node_is_shown : EachNodeIsShown
+each_node_is_shown nodes good = record { all = all_shown nodes good; once = shown_once nodes good }

@@ -16,9 +16,14 @@ pub record HasEachHead (nodes : List Node) (order : List ℕ) : Type 0 where
 abbrev pub EachHeadIsMade : Type 0
 EachHeadIsMade = (nodes : List Node) → plan_faults nodes ≡ [] → HasEachHead nodes (making_order nodes)
 
--- in a plan without a fault each node, and nothing else, is in a vertex that is made
+-- the vertices of these heads have each node of the plan, and nothing else, and none twice
+pub record ShowsEachNode (nodes : List Node) (order : List ℕ) : Type 0 where
+  pub all : (node : ℕ) → is_among (nodes_of_vertices nodes order) node ≡ nat_lt node (length nodes)
+  pub once : IsDistinct nat_eq (nodes_of_vertices nodes order)
+
+-- in a plan without a fault each node is in one vertex that is made
 abbrev pub EachNodeIsShown : Type 0
-EachNodeIsShown = (nodes : List Node) → plan_faults nodes ≡ [] → (node : ℕ) → is_among (nodes_of_vertices nodes (making_order nodes)) node ≡ nat_lt node (length nodes)
+EachNodeIsShown = (nodes : List Node) → plan_faults nodes ≡ [] → ShowsEachNode nodes (making_order nodes)
 
 -- the nodes whose rows a head takes are in vertices before its own
 abbrev pub GoesByInputs : List Node → List ℕ → Type 0

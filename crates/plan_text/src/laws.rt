@@ -5,7 +5,7 @@ pub fn each_head_is_made()
     ensures { EachHeadIsMade }
 {}
 
-/// Each node of an accepted plan is shown, and nothing else is.
+/// Each node of an accepted plan is shown, in one vertex, and no other number is.
 pub fn each_node_is_shown()
     ensures { EachNodeIsShown }
 {}
