@@ -1,9 +1,6 @@
 mod CauseLemmas
-mod Examples
-mod KeptRows
-mod Laws
+mod Committing
+mod LookClauses
 mod OneCommit
-mod Plans
+mod OwnTables
 mod RunClauses
-mod Shapes
-mod TableRows

@@ -5,19 +5,21 @@ use Rattle.estate.specs.Changes.{Rose, Same, Step, Stays, Leads}
 use Rattle.estate.specs.Contents.{Contents}
 use Rattle.estate.specs.World.{World}
 use Rattle.estate.specs.declared.commit.Commit.{Commit}
+use Rattle.job_json.specs.Texts.{printed_text}
+use Rattle.job_json.specs.declared.job.Job.{Job}
 use Rattle.plan_model.specs.Plans.{committed_text}
-use Rattle.batch_main.specs.PlainForm.{IsPlainJob}
-use Rattle.batch_main.specs.PlainPlan.{plan_of}
-use Rattle.batch_main.specs.declared.plain_job.PlainJob.{PlainJob}
+use Rattle.batch_main.specs.Jobs.{IsAccepted}
 
--- The commit of the job that the inputs tell: under the job's name, with the job's text, and with the text that the
--- definition gives for its plan over the tables' files.
+-- The commit of the job that the inputs tell: under the job's name, with the text that the job is printed as, and with
+-- the text that the definition gives for its plan over the tables' files.
 pub record IsCommitOf (inputs : Contents) (commit : Commit) : Type 0 where
-  pub plain_job : PlainJob
-  pub plain : IsPlainJob commit.job plain_job
-  pub id : commit.id ≡ plain_job.name
-  pub job : IsTrue inputs.told → commit.job ≡ inputs.job
-  pub text : IsTrue inputs.told → commit.text ≡ committed_text inputs.files (plan_of plain_job)
+  pub from : List ℕ
+  pub told : IsTrue inputs.told → from ≡ inputs.job
+  pub of : Job
+  pub accepted : IsAccepted from of
+  pub id : commit.id ≡ of.name
+  pub job : commit.job ≡ printed_text of
+  pub text : IsTrue inputs.told → commit.text ≡ committed_text inputs.files of.plan
 
 -- the commits under an id
 abbrev pub commits_under : List ℕ → List Commit → List Commit

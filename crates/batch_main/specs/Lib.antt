@@ -2,8 +2,9 @@ pub mod Answers
 pub mod Causes
 pub mod Commits
 pub mod FolderWorld
-pub mod PlainForm
-pub mod PlainPlan
-pub mod PlainReading
+pub mod Jobs
+pub mod Orders
 pub mod Refusals
-pub mod Words
+pub mod Tables
+pub mod Telling
+pub mod Views

@@ -1,21 +1,36 @@
-use crate::{Unbuilt, WordKind};
+use crate::{RefusedKind, Unbuilt};
+use batch_words::WordKind;
+use row_core::Bytes;
 
 /// What a call of the program answers. docs/SEMANTICS.md says when each comes, with its line and its
 /// exit status.
-#[derive(Clone, Copy, Debug, PartialEq, Eq)]
+#[derive(Debug, Drop)]
 pub enum Answer {
     /// The sink has the job's one commit, and the line was printed.
     Finished,
-    /// The words are no command: the fault is at word number `at`, from 0.
-    Usage { at: u64, kind: WordKind },
+    /// What was asked for was printed.
+    Shown,
+    /// The words are no command of this call: the fault is at word number `at`, from 0.
+    Usage {
+        at: u64,
+        kind: WordKind,
+    },
+    /// The job's text, or its plan, has this first fault, in this node and at this name.
+    JobRefused {
+        kind: RefusedKind,
+        node: Option<u32>,
+        name: Option<Bytes>,
+    },
     /// The sink had a fault, which it counted.
     SinkFault,
     /// The inputs had a fault, which they counted.
     InputFault,
-    /// The job's one commit stands, and printing the line failed.
+    /// The line or the text could not be printed; a job that was run has its one commit.
     PrintFault,
     /// This is not built yet.
-    NotBuilt { what: Unbuilt },
+    NotBuilt {
+        what: Unbuilt,
+    },
     /// Memory was refused.
     NoMemory,
 }

@@ -1,59 +1,74 @@
-//! The program: reads a job's text and its tables, and commits the job's rows, once.
+//! The program: reads a job's text and its tables, and commits the job's rows, once; or shows what the job
+//! is and what it would commit.
 #![tactic(auto)]
 
+mod accepted_job;
 mod answer;
 mod commit_job;
-mod comparison;
-mod filtering;
 mod folder_estate;
 mod folder_inputs;
-mod json_shape;
+mod job_refusal;
 mod lines;
+mod listed_table;
+mod looking;
+mod orders;
 mod outcome;
-mod plain_error;
-mod plain_form;
-mod plain_job;
 mod refusal;
-mod reply;
+mod refused_kind;
 mod running;
 mod standard_output;
 mod system_clock;
 mod tables;
+mod telling;
 #[cfg(test)]
 mod tests;
 mod unbuilt;
+mod view;
+mod view_text;
 mod volatile_log;
 mod volatile_shelf;
-mod word_kind;
-mod words;
 
 use crate::folder_estate::FolderEstate;
 use crate::folder_inputs::FolderInputs;
+use crate::orders::is_view;
 use crate::standard_output::StandardOutput;
 use crate::system_clock::SystemClock;
 pub use answer::Answer;
 use estate::NoGate;
+pub use looking::look;
 pub use outcome::Outcome;
+pub use refused_kind::RefusedKind;
 pub use running::run;
 use std::process::ExitCode;
 use std::{env, io};
 pub use unbuilt::Unbuilt;
-pub use word_kind::WordKind;
 
 fn main(rt: HostRuntime) -> ExitCode {
-    let Ok(words) = arguments(&rt) else {
-        return ExitCode::from(Outcome::new(Answer::NoMemory).status);
+    let outcome = match arguments(&rt) {
+        Ok(words) => serve(&rt, words.as_slice()),
+        Err(_) => Outcome::new(Answer::NoMemory),
     };
-    let outcome = run(
-        rt.alloc(),
-        words.as_slice(),
-        &mut FolderEstate::new(&rt),
-        &mut FolderInputs::new(&rt),
-        &mut StandardOutput::new(&rt),
-        &mut SystemClock::new(&rt),
-        &NoGate,
-    );
     ExitCode::from(outcome.status)
+}
+
+// Serves the words in the present folder.
+fn serve(rt: &HostRuntime, words: &[String]) -> Outcome {
+    let mut estate = FolderEstate::new(rt);
+    let mut inputs = FolderInputs::new(rt);
+    let mut printer = StandardOutput::new(rt);
+    if is_view(words) {
+        return look(rt.alloc(), words, &mut estate, &mut inputs, &mut printer);
+    }
+    let mut clock = SystemClock::new(rt);
+    run(
+        rt.alloc(),
+        words,
+        &mut estate,
+        &mut inputs,
+        &mut printer,
+        &mut clock,
+        &NoGate,
+    )
 }
 
 // The words after the program's name. Words that are no text are no command: one that none is stands for

@@ -4,7 +4,7 @@ ghost use Rattle.batch_main.specs.Answers.{status_of};
 use crate::Answer;
 
 /// The answer of a call, and the exit status that goes with it.
-#[derive(Clone, Copy, Debug, PartialEq, Eq)]
+#[derive(Debug, Drop)]
 pub struct Outcome {
     pub answer: Answer,
     pub status: u8,
@@ -15,19 +15,18 @@ impl Outcome {
         ensures answer { result.answer ≡ answer }
         ensures status { result.status ≡ status_of answer }
     {
-        Outcome {
-            answer,
-            status: status(answer),
-        }
+        let status = status(&answer);
+        Outcome { answer, status }
     }
 }
 
-fn status(answer: Answer) -> u8
-    ensures { result ≡ status_of answer }
+fn status(answer: &Answer) -> u8
+    ensures { result ≡ status_of answer.now }
 {
     match answer {
-        Answer::Finished => 0,
+        Answer::Finished | Answer::Shown => 0,
         Answer::Usage { .. } => 1,
+        Answer::JobRefused { .. } => 2,
         Answer::SinkFault => 6,
         Answer::InputFault => 7,
         Answer::PrintFault => 8,

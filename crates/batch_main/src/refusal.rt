@@ -1,15 +1,20 @@
 ghost use Rattle.std.specs.Prelude.{◌≡◌};
-ghost use Rattle.batch_main.specs.Refusals.{estate_refusal, input_refusal, job_refusal, answer_to};
+ghost use Rattle.batch_main.specs.Refusals.{answer_to, estate_refusal, input_refusal, job_refusal, plan_refusal, word_refusal};
 ghost use Rattle.batch_main.specs.declared.refusal.Refusal.TheVariants.{NoMemory};
 
-use crate::plain_error::PlainError;
-use crate::{Answer, Unbuilt};
+use crate::job_refusal::JobRefusal;
+use crate::{Answer, RefusedKind, Unbuilt};
+use batch_words::{WordError, WordKind};
 use estate::{EstateError, InputError};
+use job_json::JobError;
+use plan_model::PlanError;
 use std::alloc::{AllocError, AllocFailed};
 
-/// Why a job was not committed.
-#[derive(Clone, Copy, Debug, PartialEq, Eq)]
+/// Why a command was not served.
+#[derive(Debug, Drop)]
 pub enum Refusal {
+    Usage { at: u64, kind: WordKind },
+    JobRefused(JobRefusal),
     SinkFault,
     InputFault,
     NotBuilt { what: Unbuilt },
@@ -21,10 +26,55 @@ impl From<Refusal> for Answer {
 
     fn from(refusal: Refusal) -> Self {
         match refusal {
+            Refusal::Usage { at, kind } => Answer::Usage { at, kind },
+            Refusal::JobRefused(JobRefusal { kind, node, name }) => {
+                Answer::JobRefused { kind, node, name }
+            }
             Refusal::SinkFault => Answer::SinkFault,
             Refusal::InputFault => Answer::InputFault,
             Refusal::NotBuilt { what } => Answer::NotBuilt { what },
             Refusal::NoMemory => Answer::NoMemory,
+        }
+    }
+}
+
+impl From<WordError> for Refusal {
+    ghost from_gives = { λ error refusal. refusal ≡ word_refusal error };
+
+    fn from(error: WordError) -> Self {
+        match error {
+            WordError::Fault { at, kind } => Refusal::Usage { at, kind },
+            WordError::NoMemory => Refusal::NoMemory,
+        }
+    }
+}
+
+impl From<JobError> for Refusal {
+    ghost from_gives = { λ error refusal. refusal ≡ job_refusal error };
+
+    fn from(error: JobError) -> Self {
+        match error {
+            JobError::Fault(fault) => Refusal::JobRefused(JobRefusal {
+                kind: RefusedKind::Text(fault.kind),
+                node: fault.node,
+                name: fault.name,
+            }),
+            JobError::NoMemory => Refusal::NoMemory,
+        }
+    }
+}
+
+impl From<PlanError> for Refusal {
+    ghost from_gives = { λ error refusal. refusal ≡ plan_refusal error };
+
+    fn from(error: PlanError) -> Self {
+        match error {
+            PlanError::Fault(fault) => Refusal::JobRefused(JobRefusal {
+                kind: RefusedKind::Plan(fault.kind),
+                node: fault.node,
+                name: None,
+            }),
+            PlanError::NoMemory => Refusal::NoMemory,
         }
     }
 }
@@ -47,17 +97,6 @@ impl From<InputError> for Refusal {
         match error {
             InputError::Failed => Refusal::InputFault,
             InputError::NoMemory => Refusal::NoMemory,
-        }
-    }
-}
-
-impl From<PlainError> for Refusal {
-    ghost from_gives = { λ error refusal. refusal ≡ job_refusal error };
-
-    fn from(error: PlainError) -> Self {
-        match error {
-            PlainError::NotPlain => Refusal::NotBuilt { what: Unbuilt::Job },
-            PlainError::NoMemory => Refusal::NoMemory,
         }
     }
 }

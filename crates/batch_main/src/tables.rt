@@ -1,81 +1,126 @@
-ghost use Rattle.std.specs.Prelude.{◌≡◌, ◌<◌, [], ◌∷◌, ◌++◌, length, map, slice_index_or, IsTrue, IfOk, IfErr, OnOk};
-ghost use Rattle.std.specs.List.{flat_map};
+ghost use Rattle.std.specs.Prelude.{◌≡◌, length, map, All, IsTrue, IfOk, IfErr};
 ghost use Rattle.estate.specs.Contents.{KeepsContents};
-ghost use Rattle.row_core.specs.Exprs.{pred_within};
-ghost use Rattle.plan_model.specs.Operators.{filtered};
-ghost use Rattle.plan_model.specs.Tables.{table_rows};
+ghost use Rattle.plan_model.specs.Plans.{committed_text};
+ghost use Rattle.plan_model.specs.TableNames.{tables_of};
 ghost use Rattle.batch_main.specs.Causes.{WhyUnread};
-ghost use Rattle.batch_main.specs.PlainPlan.{pred_of};
+ghost use Rattle.batch_main.specs.Tables.{listed, with_files};
 
-use crate::filtering::keep_rows;
-use crate::plain_job::PlainJob;
+use crate::listed_table::ListedTable;
 use crate::refusal::Refusal;
-use csv_tables::read_table;
 use estate::Inputs;
-use plan_model::Kinds;
-use row_core::{Bytes, Pred, Rows};
+use plan_eval::{Files, TableFiles, TableRows, answer};
+use plan_model::{GoodPlan, tables_of};
+use row_core::Bytes;
 use std::alloc::Global;
 
-/// The rows of a job's table at which its test says Yes. One file is read at a time.
-pub fn job_rows<I: Inputs>(
+/// The tables that a plan reads, with the numbers of their files.
+pub fn list_tables<I: Inputs>(
     alloc: Global,
     inputs: &mut I,
-    job: &PlainJob,
-    files: u32,
-) -> Result<Rows, Refusal>
-    requires files { IsTrue (I.contents inputs.old).told → length ((I.contents inputs.old).files job.now.table) ≡ files }
-    requires within { IsTrue (pred_within (length job.now.columns) (pred_of job.now.comparison)) }
+    plan: &GoodPlan,
+) -> Result<Vec<ListedTable>, Refusal>
     ensures keeps { KeepsContents (I.contents inputs.old) (I.contents inputs.new) }
-    ensures rows { IfOk result (λ rows. IsTrue (I.contents inputs.old).told →
-        rows ≡ filtered (pred_of job.now.comparison)
-        (flat_map (table_rows (map (λ c. c.kind) job.now.columns)) ((I.contents inputs.old).files job.now.table))) }
+    ensures tables { IfOk result (λ tables. IsTrue (I.contents inputs.old).told → tables.items ≡ listed (I.contents inputs.old).files (tables_of plan.now)) }
     ensures why { IfErr result (WhyUnread (I.contents inputs.old).faults (I.contents inputs.new).faults) }
 {
-    let kinds = job.kinds(alloc)?;
-    let test = job.comparison.pred();
-    kept_rows(alloc, inputs, &job.table, files, &kinds, &test)
+    let names = tables_of(alloc, plan.plan())?;
+    list_each(alloc, inputs, names.into_vec())
 }
 
-fn kept_rows<I: Inputs>(
+/// The text that a plan commits over its tables.
+pub fn text_over<I: Inputs>(
     alloc: Global,
     inputs: &mut I,
-    table: &Bytes,
-    files: u32,
-    kinds: &Kinds,
-    test: &Pred,
-) -> Result<Rows, Refusal>
-    requires files { IsTrue (I.contents inputs.old).told → length ((I.contents inputs.old).files table.now) ≡ files }
-    requires columns { IsTrue (pred_within (length kinds.now) test.now) }
+    plan: &GoodPlan,
+    tables: Vec<ListedTable>,
+) -> Result<Bytes, Refusal>
+    requires { IsTrue (I.contents inputs.old).told → tables.items ≡ listed (I.contents inputs.old).files (tables_of plan.now) }
     ensures keeps { KeepsContents (I.contents inputs.old) (I.contents inputs.new) }
-    ensures rows { IfOk result (λ rows. IsTrue (I.contents inputs.old).told →
-        rows ≡ filtered test.now (flat_map (table_rows kinds.now) ((I.contents inputs.old).files table.now))) }
+    ensures text { IfOk result (λ text. IsTrue (I.contents inputs.old).told → text ≡ committed_text (I.contents inputs.old).files plan.now) }
     ensures why { IfErr result (WhyUnread (I.contents inputs.old).faults (I.contents inputs.new).faults) }
 {
-    let mut kept = Rows::new(alloc);
-    for file in 0..files {
-        keep_file(alloc, inputs, table, file, kinds, test, &mut kept)?;
+    let tables = read_tables(alloc, inputs, tables)?;
+    Ok(answer(alloc, plan, &tables)?)
+}
+
+fn list_each<I: Inputs>(
+    alloc: Global,
+    inputs: &mut I,
+    names: Vec<Bytes>,
+) -> Result<Vec<ListedTable>, Refusal>
+    ensures keeps { KeepsContents (I.contents inputs.old) (I.contents inputs.new) }
+    ensures tables { IfOk result (λ tables. IsTrue (I.contents inputs.old).told → tables.items ≡ listed (I.contents inputs.old).files names.items) }
+    ensures why { IfErr result (WhyUnread (I.contents inputs.old).faults (I.contents inputs.new).faults) }
+{
+    let mut tables = Vec::with_capacity(alloc, names.len())?;
+    for table in names {
+        let files = file_count(inputs, &table)?;
+        tables.push(ListedTable { table, files })?;
     }
-    Ok(kept)
+    Ok(tables)
 }
 
-fn keep_file<I: Inputs>(
+// How many files a table has. More than 2^32 - 1 are not numbered, which is want of memory.
+fn file_count<I: Inputs>(inputs: &mut I, table: &Bytes) -> Result<u32, Refusal>
+    ensures keeps { KeepsContents (I.contents inputs.old) (I.contents inputs.new) }
+    ensures count { IfOk result (λ files. IsTrue (I.contents inputs.old).told → length ((I.contents inputs.old).files table.now) ≡ files) }
+    ensures why { IfErr result (WhyUnread (I.contents inputs.old).faults (I.contents inputs.new).faults) }
+{
+    let sizes = inputs.file_sizes(table)?;
+    match u32::try_from(sizes.as_slice().len()) {
+        Ok(files) => Ok(files),
+        Err(_) => Err(Refusal::NoMemory),
+    }
+}
+
+fn read_tables<I: Inputs>(
+    alloc: Global,
+    inputs: &mut I,
+    tables: Vec<ListedTable>,
+) -> Result<TableRows, Refusal>
+    requires { IsTrue (I.contents inputs.old).told → All (λ table. table.files ≡ length ((I.contents inputs.old).files table.table)) tables.items }
+    ensures keeps { KeepsContents (I.contents inputs.old) (I.contents inputs.new) }
+    ensures tables { IfOk result (λ rows. IsTrue (I.contents inputs.old).told → rows ≡ with_files (I.contents inputs.old).files (map (λ table. table.table) tables.items)) }
+    ensures why { IfErr result (WhyUnread (I.contents inputs.old).faults (I.contents inputs.new).faults) }
+{
+    let mut made = Vec::with_capacity(alloc, tables.len())?;
+    for table in tables {
+        made.push(read_table(alloc, inputs, table)?)?;
+    }
+    Ok(TableRows::from_vec(made))
+}
+
+fn read_table<I: Inputs>(
+    alloc: Global,
+    inputs: &mut I,
+    table: ListedTable,
+) -> Result<TableFiles, Refusal>
+    requires { IsTrue (I.contents inputs.old).told → table.files ≡ length ((I.contents inputs.old).files table.table) }
+    ensures keeps { KeepsContents (I.contents inputs.old) (I.contents inputs.new) }
+    ensures files { IfOk result (λ made. IsTrue (I.contents inputs.old).told → made ≡ record { table = table.table; rows = (I.contents inputs.old).files table.table }) }
+    ensures why { IfErr result (WhyUnread (I.contents inputs.old).faults (I.contents inputs.new).faults) }
+{
+    let rows = read_files(alloc, inputs, &table.table, table.files)?;
+    Ok(TableFiles {
+        table: table.table,
+        rows,
+    })
+}
+
+fn read_files<I: Inputs>(
     alloc: Global,
     inputs: &mut I,
     table: &Bytes,
-    file: u32,
-    kinds: &Kinds,
-    test: &Pred,
-    kept: &mut Rows,
-) -> Result<(), Refusal>
-    requires file { IsTrue (I.contents inputs.old).told → file < length ((I.contents inputs.old).files table.now) }
-    requires columns { IsTrue (pred_within (length kinds.now) test.now) }
+    files: u32,
+) -> Result<Files, Refusal>
+    requires { IsTrue (I.contents inputs.old).told → files ≡ length ((I.contents inputs.old).files table.now) }
     ensures keeps { KeepsContents (I.contents inputs.old) (I.contents inputs.new) }
-    ensures rows { OnOk result (IsTrue (I.contents inputs.old).told →
-        kept.new ≡ kept.old ++ filtered test.now (table_rows kinds.now (slice_index_or ((I.contents inputs.old).files table.now) file []))) }
+    ensures files { IfOk result (λ made. IsTrue (I.contents inputs.old).told → made ≡ (I.contents inputs.old).files table.now) }
     ensures why { IfErr result (WhyUnread (I.contents inputs.old).faults (I.contents inputs.new).faults) }
 {
-    let bytes = inputs.read_file(table, file)?;
-    let rows = read_table(alloc, &bytes, kinds)?;
-    keep_rows(alloc, test, rows, kept)?;
-    Ok(())
+    let mut made = Vec::new(alloc);
+    for file in 0..files {
+        made.push(inputs.read_file(table, file)?)?;
+    }
+    Ok(Files::from_vec(made))
 }

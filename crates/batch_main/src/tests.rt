@@ -1,4 +1,5 @@
-use crate::run;
+use crate::orders::is_view;
+use crate::{look, run};
 use estate::{
     Files, FixedClock, Losses, MemEstate, MemInputs, MemPrinter, NoGate, Numbers, Table, Tables,
 };
@@ -11,23 +12,77 @@ const JOB: &str = "{\"job\":\"orders\",\"nodes\":[
  {\"op\":\"filter\",\"input\":0,\"where\":[\"ge\",[\"col\",2],[\"int\",10]]},
  {\"op\":\"sink\",\"input\":1,\"name\":\"out\"}]}";
 
+// The same job as it is printed: compact, members in byte order, all settings.
+const PRINTED: &str =
+    "{\"job\":\"orders\",\"nodes\":[{\"columns\":[[\"id\",\"int\"],[\"city\",\"text\"],[\"amount\",\"int\"]],\"op\":\"source\",\"table\":\"orders\"},{\"input\":0,\"op\":\"filter\",\"where\":[\"ge\",[\"col\",2],[\"int\",10]]},{\"input\":1,\"name\":\"out\",\"op\":\"sink\"}],\"settings\":{\"attempts\":2,\"block_ms\":60000,\"broadcast_bytes\":1048576,\"flush_every\":16,\"max_parallelism\":16,\"min_parallelism\":1,\"restart_limit\":3,\"skew_bytes\":16777216,\"skew_percent\":400,\"slots_per_worker\":1,\"slow_lower_ms\":60000,\"slow_percent\":150,\"slow_ratio\":75,\"target_bytes\":16777216}}";
+
 const ROWS: &str = "1,Bonn,20\n2,Kiel,5\n3,Bonn,10\n";
+
+const ORDERS: &[(&str, &[&str])] = &[("orders", &[ROWS])];
 
 const COMMITTED: &str = "sink out\n1,Bonn,20\n3,Bonn,10\n";
 
-// Which calls of each object fail, by their numbers.
+// Orders of at least 20 by city, their number and sum: a filter, an inner join, an aggregate.
+const TOTALS: &str = "{\"job\":\"totals\",\"settings\":{\"max_parallelism\":8},\"nodes\":[
+ {\"op\":\"source\",\"table\":\"orders\",\"columns\":[[\"id\",\"int\"],[\"city\",\"int\"],[\"amount\",\"int\"]]},
+ {\"op\":\"filter\",\"input\":0,\"where\":[\"ge\",[\"col\",2],[\"int\",20]]},
+ {\"op\":\"source\",\"table\":\"cities\",\"columns\":[[\"city\",\"int\"],[\"name\",\"text\"]]},
+ {\"op\":\"join\",\"kind\":\"inner\",\"left\":1,\"right\":2,\"keys\":[[1,0]]},
+ {\"op\":\"aggregate\",\"input\":3,\"keys\":[4],\"aggs\":[[\"count\"],[\"sum\",2]]},
+ {\"op\":\"sink\",\"input\":4,\"name\":\"totals\"}]}";
+
+const TOTALS_TABLES: &[(&str, &[&str])] = &[
+    (
+        "cities",
+        &[
+            "0,city0\n1,city1\n2,city2\n3,city3\n4,city4\n5,city5\n6,city6\n7,city7\n8,city8\n9,city9\n",
+        ],
+    ),
+    (
+        "orders",
+        &[
+            "0,0,7\n1,7,38\n2,4,69\n3,1,0\n4,8,31\n",
+            "5,5,62\n6,2,93\n7,9,24\n8,6,55\n9,3,86\n",
+        ],
+    ),
+];
+
+const TOTALS_TEXT: &str = "sink totals
+city2,1,93
+city3,1,86
+city4,1,69
+city5,1,62
+city6,1,55
+city7,1,38
+city8,1,31
+city9,1,24
+";
+
+const TOTALS_PLAN: &str = "vertex 0 nodes=0,1 in=files out=3:hash
+vertex 1 nodes=2 in=files out=3:hash
+vertex 2 nodes=3 in=1:hash,2:hash out=4:hash
+vertex 3 nodes=4,5 in=3:hash out=sink
+";
+
+// What a command is given, and which calls of each object fail, by their numbers.
 #[derive(Clone, Copy)]
-struct Failing<'a> {
+struct Given<'a> {
+    job: &'a [u8],
+    tables: &'a [(&'a str, &'a [&'a str])],
     estate: &'a [u64],
     inputs: &'a [u64],
     printer: &'a [u64],
 }
 
-const NONE: Failing<'static> = Failing {
-    estate: &[],
-    inputs: &[],
-    printer: &[],
-};
+fn over<'a>(job: &'a [u8], tables: &'a [(&'a str, &'a [&'a str])]) -> Given<'a> {
+    Given {
+        job,
+        tables,
+        estate: &[],
+        inputs: &[],
+        printer: &[],
+    }
+}
 
 fn numbers(alloc: Global, items: &[u64]) -> Result<Numbers, NoMemory> {
     Ok(Numbers::from_vec(items.to_vec(alloc)?))
@@ -38,63 +93,80 @@ fn new_estate(alloc: Global, failing: &[u64]) -> Result<MemEstate, NoMemory> {
     MemEstate::new(alloc, &numbers(alloc, failing)?, &losing)
 }
 
-// The table `orders` with these files.
-fn orders(alloc: Global, files: &[&str]) -> Result<Tables, NoMemory> {
+fn files_of(alloc: Global, files: &[&str]) -> Result<Files, NoMemory> {
     let mut made = Files::new(alloc);
     for file in files {
         made.push(Bytes::from_slice(alloc, file.as_bytes())?)?;
     }
-    let mut tables = Tables::new(alloc);
-    tables.push(Table {
-        table: Bytes::from_slice(alloc, b"orders")?,
-        files: made,
-    })?;
-    Ok(tables)
+    Ok(made)
 }
 
-fn strings(alloc: Global, words: &[&str]) -> Result<Vec<String>, NoMemory> {
+fn tables_of(alloc: Global, tables: &[(&str, &[&str])]) -> Result<Tables, NoMemory> {
+    let mut made = Tables::new(alloc);
+    for (name, files) in tables {
+        made.push(Table {
+            table: Bytes::from_slice(alloc, name.as_bytes())?,
+            files: files_of(alloc, files)?,
+        })?;
+    }
+    Ok(made)
+}
+
+// The words of a line, between its spaces.
+fn words_of(alloc: Global, line: &str) -> Result<Vec<String>, NoMemory> {
     let mut made = Vec::new(alloc);
-    for word in words {
+    for word in line.split(' ') {
         made.push(String::from_str(alloc, word)?)?;
     }
     Ok(made)
 }
 
-// Runs the words over an estate, and gives the status and what was printed.
-fn run_on(
+// Serves the words as the program does, and gives the status and what was printed.
+fn serve(
     alloc: Global,
+    words: &[String],
     estate: &mut MemEstate,
-    words: &[&str],
-    job: &str,
-    files: &[&str],
-    failing: Failing<'_>,
+    given: Given<'_>,
 ) -> Result<(u8, Bytes), NoMemory> {
-    let job = Bytes::from_slice(alloc, job.as_bytes())?;
-    let tables = orders(alloc, files)?;
-    let mut inputs = MemInputs::new(alloc, &job, &tables, &numbers(alloc, failing.inputs)?)?;
-    let mut printer = MemPrinter::new(alloc, &numbers(alloc, failing.printer)?)?;
-    let mut clock = FixedClock::new(alloc, &numbers(alloc, &[])?)?;
-    let words = strings(alloc, words)?;
-    let outcome = run(
-        alloc,
-        words.as_slice(),
-        estate,
-        &mut inputs,
-        &mut printer,
-        &mut clock,
-        &NoGate,
-    );
+    let job = Bytes::from_slice(alloc, given.job)?;
+    let tables = tables_of(alloc, given.tables)?;
+    let mut inputs = MemInputs::new(alloc, &job, &tables, &numbers(alloc, given.inputs)?)?;
+    let mut printer = MemPrinter::new(alloc, &numbers(alloc, given.printer)?)?;
+    let outcome = if is_view(words) {
+        look(alloc, words, estate, &mut inputs, &mut printer)
+    } else {
+        let mut clock = FixedClock::new(alloc, &numbers(alloc, &[])?)?;
+        run(
+            alloc,
+            words,
+            estate,
+            &mut inputs,
+            &mut printer,
+            &mut clock,
+            &NoGate,
+        )
+    };
     Ok((outcome.status, printer.printed()?))
 }
 
-// How many commits the sink has, and the text of the last.
-fn last_text(alloc: Global, estate: &MemEstate) -> Result<(usize, Bytes), NoMemory> {
+// Serves a line of words over a fresh estate, and gives the status, what was printed, and how many commits there are.
+fn serve_line(alloc: Global, line: &str, given: Given<'_>) -> Result<(u8, Bytes, usize), NoMemory> {
+    let mut estate = new_estate(alloc, given.estate)?;
+    let words = words_of(alloc, line)?;
+    let (status, printed) = serve(alloc, words.as_slice(), &mut estate, given)?;
+    Ok((status, printed, estate.commits()?.as_slice().len()))
+}
+
+// The texts of the first commit: the job's and its rows'.
+fn first_commit(alloc: Global, estate: &MemEstate) -> Result<(Bytes, Bytes), NoMemory> {
     let commits = estate.commits()?;
-    let text = match commits.as_slice().last() {
-        Some(commit) => Bytes::from_slice(alloc, commit.text.as_slice())?,
-        None => Bytes::new(alloc),
-    };
-    Ok((commits.as_slice().len(), text))
+    match commits.as_slice().first() {
+        Some(commit) => Ok((
+            Bytes::from_slice(alloc, commit.job.as_slice())?,
+            Bytes::from_slice(alloc, commit.text.as_slice())?,
+        )),
+        None => Ok((Bytes::new(alloc), Bytes::new(alloc))),
+    }
 }
 
 #[test]
@@ -110,42 +182,211 @@ fn commits_the_rows_that_pass(rt: HostRuntime) -> Result<(), Fail> {
             "sink out\n,\"a,b\",11\n3,,10\n",
         ),
     ];
+    let words = words_of(alloc, "run")?;
     for (files, committed) in cases {
         let mut estate = new_estate(alloc, &[])?;
-        let (status, printed) = run_on(alloc, &mut estate, &["run"], JOB, files, NONE)?;
-        let (count, text) = last_text(alloc, &estate)?;
+        let tables = [("orders", files)];
+        let given = over(JOB.as_bytes(), &tables);
+        let (status, printed) = serve(alloc, words.as_slice(), &mut estate, given)?;
+        let (job, text) = first_commit(alloc, &estate)?;
         assert_eq!(rt; status, 0);
         assert_eq!(rt; printed.as_slice(), b"finished job=orders\n".as_slice());
-        assert_eq!(rt; count, 1);
+        assert_eq!(rt; estate.commits()?.as_slice().len(), 1);
+        assert_eq!(rt; job.as_slice(), PRINTED.as_bytes());
         assert_eq!(rt; text.as_slice(), committed.as_bytes());
     }
     Ok(())
 }
 
 #[test]
-fn refuses_and_commits_nothing(rt: HostRuntime) -> Result<(), Fail> {
+fn commits_a_join_and_an_aggregate(rt: HostRuntime) -> Result<(), Fail> {
     let alloc = rt.alloc();
-    let cases: [(&[&str], &str, u8, &str); 7] = [
-        (&[], JOB, 1, "usage at=0 no-command\n"),
-        (&["Run"], JOB, 1, "usage at=0 unknown-command\n"),
-        (&["", "run"], JOB, 1, "usage at=0 unknown-command\n"),
-        (&["run", ""], JOB, 1, "usage at=1 unknown-word\n"),
-        (&["run", "run", "run"], JOB, 1, "usage at=1 unknown-word\n"),
-        (&["run"], "", 18, "not-built job\n"),
-        (
-            &["run"],
-            "{\"job\":\"orders\",\"nodes\":[]}",
-            18,
-            "not-built job\n",
-        ),
+    let mut estate = new_estate(alloc, &[])?;
+    let words = words_of(alloc, "run --workers 0")?;
+    let given = over(TOTALS.as_bytes(), TOTALS_TABLES);
+    let (status, printed) = serve(alloc, words.as_slice(), &mut estate, given)?;
+    let (_, text) = first_commit(alloc, &estate)?;
+    assert_eq!(rt; status, 0);
+    assert_eq!(rt; printed.as_slice(), b"finished job=totals\n".as_slice());
+    assert_eq!(rt; text.as_slice(), TOTALS_TEXT.as_bytes());
+    Ok(())
+}
+
+#[test]
+fn shows_and_writes_nothing(rt: HostRuntime) -> Result<(), Fail> {
+    let alloc = rt.alloc();
+    let cases: [(&str, &str, &[(&str, &[&str])], &str); 6] = [
+        ("check", JOB, &[], "ok nodes=3 sinks=1\n"),
+        ("check", TOTALS, &[], "ok nodes=6 sinks=1\n"),
+        ("plan", JOB, &[], "vertex 0 nodes=0,1,2 in=files out=sink\n"),
+        ("plan", TOTALS, &[], TOTALS_PLAN),
+        ("reference", JOB, ORDERS, COMMITTED),
+        ("reference", TOTALS, TOTALS_TABLES, TOTALS_TEXT),
     ];
-    for (words, job, wanted, line) in cases {
+    for (line, job, tables, shown) in cases {
         let mut estate = new_estate(alloc, &[])?;
-        let (status, printed) = run_on(alloc, &mut estate, words, job, &[ROWS], NONE)?;
-        assert_eq!(rt; status, wanted);
-        assert_eq!(rt; printed.as_slice(), line.as_bytes());
-        assert_eq!(rt; last_text(alloc, &estate)?.0, 0);
+        let words = words_of(alloc, line)?;
+        let given = over(job.as_bytes(), tables);
+        let (status, printed) = serve(alloc, words.as_slice(), &mut estate, given)?;
+        assert_eq!(rt; status, 0);
+        assert_eq!(rt; printed.as_slice(), shown.as_bytes());
+        assert_eq!(rt; estate.moments(), 1);
     }
+    Ok(())
+}
+
+#[test]
+fn refuses_words(rt: HostRuntime) -> Result<(), Fail> {
+    let alloc = rt.alloc();
+    let cases: [(&str, u8, &str); 15] = [
+        ("", 1, "usage at=0 unknown-command\n"),
+        ("Run", 1, "usage at=0 unknown-command\n"),
+        ("run ", 1, "usage at=1 unknown-word\n"),
+        ("run run run", 1, "usage at=1 unknown-word\n"),
+        ("run --workers 65", 1, "usage at=2 bad-number\n"),
+        ("run --workers", 1, "usage at=1 missing-number\n"),
+        ("run --workers 1 --workers=2", 1, "usage at=3 repeated\n"),
+        ("generate", 1, "usage at=0 missing-number\n"),
+        ("check job", 1, "usage at=1 unknown-word\n"),
+        ("plan --workers 1", 1, "usage at=1 unknown-word\n"),
+        ("run --workers 1", 18, "not-built workers\n"),
+        ("run --workers=64", 18, "not-built workers\n"),
+        ("generate 10", 18, "not-built generate\n"),
+        ("generate 10 --workers 1", 18, "not-built generate\n"),
+        ("events", 18, "not-built events\n"),
+    ];
+    for (line, wanted, told) in cases {
+        // The text of the job is no JSON: the words come first.
+        let (status, printed, commits) = serve_line(alloc, line, over(b"[", &[]))?;
+        assert_eq!(rt; status, wanted);
+        assert_eq!(rt; printed.as_slice(), told.as_bytes());
+        assert_eq!(rt; commits, 0);
+    }
+    let mut estate = new_estate(alloc, &[])?;
+    let (status, printed) = serve(alloc, &[], &mut estate, over(b"[", &[]))?;
+    assert_eq!(rt; status, 1);
+    assert_eq!(rt; printed.as_slice(), b"usage at=0 no-command\n".as_slice());
+    Ok(())
+}
+
+#[test]
+fn each_call_has_its_own_commands(rt: HostRuntime) -> Result<(), Fail> {
+    let alloc = rt.alloc();
+    let job = Bytes::from_slice(alloc, JOB.as_bytes())?;
+    let none = numbers(alloc, &[])?;
+    let mut estate = new_estate(alloc, &[])?;
+    let mut inputs = MemInputs::new(alloc, &job, &tables_of(alloc, &[])?, &none)?;
+    let mut printer = MemPrinter::new(alloc, &none)?;
+    let mut clock = FixedClock::new(alloc, &none)?;
+    let check = words_of(alloc, "check")?;
+    let ran = run(
+        alloc,
+        check.as_slice(),
+        &mut estate,
+        &mut inputs,
+        &mut printer,
+        &mut clock,
+        &NoGate,
+    );
+    let words = words_of(alloc, "run")?;
+    let looked = look(
+        alloc,
+        words.as_slice(),
+        &mut estate,
+        &mut inputs,
+        &mut printer,
+    );
+    assert_eq!(rt; ran.status, 1);
+    assert_eq!(rt; looked.status, 1);
+    assert_eq!(rt;
+        printer.printed()?.as_slice(),
+        b"usage at=0 other-call\nusage at=0 other-call\n".as_slice()
+    );
+    assert_eq!(rt; estate.moments(), 1);
+    Ok(())
+}
+
+// Job texts with what is told of them.
+const REFUSED: &[(&[u8], &str)] = &[
+    (b"", "job-refused not-json node=- name=-\n"),
+    (b"[", "job-refused not-json node=- name=-\n"),
+    (b"[]", "job-refused not-json node=- name=-\n"),
+    (b"\xef\xbb\xbf{}", "job-refused not-json node=- name=-\n"),
+    (
+        b"{\"job\":\"\xff\"}",
+        "job-refused not-json node=- name=-\n",
+    ),
+    (b"{\"job\":\"a\"}\0", "job-refused not-json node=- name=-\n"),
+    (b"{}", "job-refused missing-member node=- name=job\n"),
+    (
+        b"{\"job\":\"a\"}",
+        "job-refused missing-member node=- name=nodes\n",
+    ),
+    (
+        b"{\"job\":\"../a\",\"nodes\":[]}",
+        "job-refused bad-member node=- name=job\n",
+    ),
+    (
+        b"{\"job\":\"a\",\"nodes\":[],\"settings\":{\"attempts\":5}}",
+        "job-refused bad-number node=- name=attempts\n",
+    ),
+    (
+        b"{\"job\":\"a\",\"nodes\":[],\"zz\":0}",
+        "job-refused unknown-member node=- name=zz\n",
+    ),
+    (
+        b"{\"job\":\"a\",\"nodes\":[{\"op\":\"sort\"}]}",
+        "job-refused unknown-op node=0 name=op\n",
+    ),
+    (
+        b"{\"job\":\"a\",\"nodes\":[]}",
+        "job-refused no-sink node=- name=-\n",
+    ),
+    (
+        b"{\"job\":\"a\",\"nodes\":[{\"op\":\"sink\",\"input\":0,\"name\":\"s\"}]}",
+        "job-refused bad-input node=0 name=-\n",
+    ),
+    (
+        b"{\"job\":\"a\",\"nodes\":[{\"op\":\"source\",\"table\":\"t\",\"columns\":[[\"k\",\"int\"]]},{\"op\":\"aggregate\",\"input\":0,\"keys\":[],\"aggs\":[[\"count\"]]},{\"op\":\"sink\",\"input\":1,\"name\":\"s\"}]}",
+        "job-refused no-keys node=1 name=-\n",
+    ),
+    (
+        b"{\"job\":\"a\",\"nodes\":[{\"op\":\"source\",\"table\":\"t\",\"columns\":[[\"k\",\"int\"]]},{\"op\":\"filter\",\"input\":0,\"where\":[\"eq\",[\"col\",1],[\"int\",0]]},{\"op\":\"sink\",\"input\":1,\"name\":\"s\"}]}",
+        "job-refused bad-column node=1 name=-\n",
+    ),
+];
+
+#[test]
+fn refuses_jobs(rt: HostRuntime) -> Result<(), Fail> {
+    let alloc = rt.alloc();
+    for (job, told) in REFUSED {
+        for line in ["run", "check", "plan", "reference"] {
+            let (status, printed, commits) = serve_line(alloc, line, over(job, &[]))?;
+            assert_eq!(rt; status, 2);
+            assert_eq!(rt; printed.as_slice(), told.as_bytes());
+            assert_eq!(rt; commits, 0);
+        }
+    }
+    Ok(())
+}
+
+#[test]
+fn refuses_texts_that_are_too_large_or_too_deep(rt: HostRuntime) -> Result<(), Fail> {
+    let alloc = rt.alloc();
+    let blanks = vec![in alloc; b' '; 1_048_577]?;
+    let brackets = vec![in alloc; b'['; 1_048_576]?;
+    let large = serve_line(alloc, "run", over(blanks.as_slice(), &[]))?;
+    let deep = serve_line(alloc, "run", over(brackets.as_slice(), &[]))?;
+    assert_eq!(rt; large.0, 2);
+    assert_eq!(rt;
+        large.1.as_slice(),
+        b"job-refused too-many node=- name=bytes\n".as_slice()
+    );
+    assert_eq!(rt; deep.0, 2);
+    assert_eq!(rt;
+        deep.1.as_slice(),
+        b"job-refused not-json node=- name=-\n".as_slice()
+    );
     Ok(())
 }
 
@@ -153,84 +394,180 @@ fn refuses_and_commits_nothing(rt: HostRuntime) -> Result<(), Fail> {
 fn a_second_run_commits_nothing_more(rt: HostRuntime) -> Result<(), Fail> {
     let alloc = rt.alloc();
     let mut estate = new_estate(alloc, &[])?;
+    let words = words_of(alloc, "run")?;
+    let first = serve(
+        alloc,
+        words.as_slice(),
+        &mut estate,
+        over(JOB.as_bytes(), ORDERS),
+    )?;
+    assert_eq!(rt; first.0, 0);
+    // The same job over other files, and another job of the same name.
+    let other =
+        b"{\"job\":\"orders\",\"nodes\":[{\"op\":\"source\",\"table\":\"t\",\"columns\":[[\"k\",\"int\"]]},{\"op\":\"sink\",\"input\":0,\"name\":\"s\"}]}";
+    for job in [JOB.as_bytes(), other.as_slice()] {
+        let (status, printed) = serve(alloc, words.as_slice(), &mut estate, over(job, &[]))?;
+        assert_eq!(rt; status, 18);
+        assert_eq!(rt; printed.as_slice(), b"not-built commit\n".as_slice());
+    }
+    let reference = words_of(alloc, "reference")?;
+    let shown = serve(
+        alloc,
+        reference.as_slice(),
+        &mut estate,
+        over(JOB.as_bytes(), &[]),
+    )?;
+    assert_eq!(rt; shown.0, 0);
+    assert_eq!(rt; shown.1.as_slice(), b"sink out\n".as_slice());
+    assert_eq!(rt; estate.commits()?.as_slice().len(), 1);
     assert_eq!(rt;
-        run_on(alloc, &mut estate, &["run"], JOB, &[ROWS], NONE)?.0,
-        0
+        first_commit(alloc, &estate)?.1.as_slice(),
+        COMMITTED.as_bytes()
     );
-    let (status, printed) = run_on(alloc, &mut estate, &["run"], JOB, &[], NONE)?;
-    assert_eq!(rt; status, 18);
-    assert_eq!(rt; printed.as_slice(), b"not-built commit\n".as_slice());
-    let (count, text) = last_text(alloc, &estate)?;
-    assert_eq!(rt; count, 1);
-    assert_eq!(rt; text.as_slice(), COMMITTED.as_bytes());
     Ok(())
 }
 
 #[test]
 fn each_fault_has_its_answer(rt: HostRuntime) -> Result<(), Fail> {
     let alloc = rt.alloc();
-    let cases: [(Failing<'_>, u8, &str, usize); 6] = [
+    let none = over(JOB.as_bytes(), ORDERS);
+    let cases: [(&str, Given<'_>, u8, &str, usize); 13] = [
         (
-            Failing {
+            "run",
+            Given {
                 inputs: &[0],
-                ..NONE
+                ..none
             },
             7,
             "input-fault\n",
             0,
         ),
         (
-            Failing {
+            "run",
+            Given {
                 inputs: &[1],
-                ..NONE
+                ..none
             },
             7,
             "input-fault\n",
             0,
         ),
         (
-            Failing {
+            "run",
+            Given {
                 inputs: &[2],
-                ..NONE
+                ..none
             },
             7,
             "input-fault\n",
             0,
         ),
         (
-            Failing {
+            "run",
+            Given {
                 estate: &[0],
-                ..NONE
+                ..none
             },
             6,
             "sink-fault\n",
             0,
         ),
         (
-            Failing {
+            "run",
+            Given {
                 estate: &[1],
-                ..NONE
+                ..none
             },
             6,
             "sink-fault\n",
             0,
         ),
         (
-            Failing {
+            "run",
+            Given {
                 printer: &[0],
-                ..NONE
+                ..none
             },
             8,
             "",
             1,
         ),
+        (
+            "check",
+            Given {
+                inputs: &[0],
+                ..none
+            },
+            7,
+            "input-fault\n",
+            0,
+        ),
+        (
+            "check",
+            Given {
+                inputs: &[1],
+                ..none
+            },
+            0,
+            "ok nodes=3 sinks=1\n",
+            0,
+        ),
+        (
+            "check",
+            Given {
+                printer: &[0],
+                ..none
+            },
+            8,
+            "",
+            0,
+        ),
+        (
+            "reference",
+            Given {
+                inputs: &[1],
+                ..none
+            },
+            7,
+            "input-fault\n",
+            0,
+        ),
+        (
+            "reference",
+            Given {
+                inputs: &[2],
+                ..none
+            },
+            7,
+            "input-fault\n",
+            0,
+        ),
+        (
+            "reference",
+            Given {
+                estate: &[0],
+                ..none
+            },
+            0,
+            COMMITTED,
+            0,
+        ),
+        (
+            "runs",
+            Given {
+                printer: &[0],
+                ..none
+            },
+            1,
+            "",
+            0,
+        ),
     ];
-    for (failing, wanted, line, commits) in cases {
-        let mut estate = new_estate(alloc, failing.estate)?;
-        let (status, printed) = run_on(alloc, &mut estate, &["run"], JOB, &[ROWS], failing)?;
+    for (line, given, wanted, told, wanted_commits) in cases {
+        let (status, printed, commits) = serve_line(alloc, line, given)?;
         assert_eq!(rt; status, wanted);
-        assert_eq!(rt; printed.as_slice(), line.as_bytes());
-        assert_eq!(rt; last_text(alloc, &estate)?.0, commits);
+        assert_eq!(rt; printed.as_slice(), told.as_bytes());
+        assert_eq!(rt; commits, wanted_commits);
     }
     Ok(())
 }

@@ -1,0 +1,9 @@
+use Rattle.std.proofs.Common.{◌≡◌, IsTrue, take}
+use Rattle.estate.specs.Contents.{KeepsContents}
+use Rattle.batch_main.proofs.tables.read_files.Given as goal
+
+abbrev pub invariant-loop-file : goal.invariant-loop-file
+invariant-loop-file g l = record {
+  keeps : KeepsContents (g.I.Inputs.contents l.initial.inputs) (g.I.Inputs.contents l.inputs);
+  made : IsTrue (g.I.Inputs.contents l.initial.inputs).told → l.made.items ≡ take l.file ((g.I.Inputs.contents l.initial.inputs).files l.table);
+}

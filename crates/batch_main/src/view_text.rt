@@ -1,0 +1,33 @@
+ghost use Rattle.std.specs.Prelude.{MatchResult};
+ghost use Rattle.estate.specs.Contents.{KeepsContents};
+ghost use Rattle.batch_main.specs.Causes.{WhyNotShown};
+ghost use Rattle.batch_main.specs.Views.{Shows};
+
+use crate::accepted_job::accept;
+use crate::refusal::Refusal;
+use crate::tables::{list_tables, text_over};
+use crate::view::View;
+use estate::Inputs;
+use plan_text::{check_text, plan_text};
+use row_core::Bytes;
+use std::alloc::Global;
+
+/// What is to be seen of the job that the inputs tell. `reference` reads the tables, the others the job's
+/// text alone.
+pub fn view_text<I: Inputs>(alloc: Global, view: View, inputs: &mut I) -> Result<Bytes, Refusal>
+    ensures why { MatchResult result
+        (Shows view (I.contents inputs.old))
+        (WhyNotShown (I.contents inputs.old) (I.contents inputs.new)) }
+    ensures keeps { KeepsContents (I.contents inputs.old) (I.contents inputs.new) }
+{
+    let text = inputs.job_text()?;
+    let job = accept(alloc, &text)?;
+    match view {
+        View::Check => Ok(check_text(alloc, &job.plan)?),
+        View::Plan => Ok(plan_text(alloc, &job.plan, &job.settings)?),
+        View::Reference => {
+            let tables = list_tables(alloc, inputs, &job.plan)?;
+            text_over(alloc, inputs, &job.plan, tables)
+        }
+    }
+}
