@@ -164,7 +164,8 @@ fn push_mirrored(
 fn push_before_nulls(alloc: Global, made: &mut Rows, row: &Row, width: u32) -> Result<(), NoMemory>
     ensures { OnOk result (made.new ≡ made.old ++ (row.now ++ nulls width) ∷ []) }
 {
-    let mut padded = row.copy(alloc)?;
+    let mut padded = Row::with_capacity(alloc, row.len().saturating_add(width as usize))?;
+    push_values(alloc, &mut padded, row.as_slice())?;
     push_nulls(&mut padded, width)?;
     made.push(padded)?;
     Ok(())
@@ -173,7 +174,7 @@ fn push_before_nulls(alloc: Global, made: &mut Rows, row: &Row, width: u32) -> R
 fn push_behind_nulls(alloc: Global, made: &mut Rows, row: &Row, width: u32) -> Result<(), NoMemory>
     ensures { OnOk result (made.new ≡ made.old ++ (nulls width ++ row.now) ∷ []) }
 {
-    let mut padded = Row::new(alloc);
+    let mut padded = Row::with_capacity(alloc, row.len().saturating_add(width as usize))?;
     push_nulls(&mut padded, width)?;
     push_values(alloc, &mut padded, row.as_slice())?;
     made.push(padded)?;
@@ -190,7 +191,8 @@ fn push_copy(alloc: Global, made: &mut Rows, row: &Row) -> Result<(), NoMemory>
 fn joined_row(alloc: Global, first: &Row, second: &Row) -> Result<Row, NoMemory>
     ensures { IfOk result (λ row. row ≡ first.now ++ second.now) }
 {
-    let mut row = first.copy(alloc)?;
+    let mut row = Row::with_capacity(alloc, first.len().saturating_add(second.len()))?;
+    push_values(alloc, &mut row, first.as_slice())?;
     push_values(alloc, &mut row, second.as_slice())?;
     Ok(row)
 }
