@@ -1,6 +1,6 @@
 -- The matches of a row stand together where the other side is sorted by its keys.
-use Rattle.std.proofs.Common.{◌≡◌, ℕ, ◌+◌, ◌<◌, ◌≤◌, Bool, true, false, Bor, All, List, [], ◌∷◌, ◌++◌, length, map, take, drop, get_or, refl, sym, subst, ◌∙◌, ap, arith}
-use Rattle.std.proofs.lemmas.List.{take-append-drop, append-nil, map-append, get_or-map, length-map, get_or-take, get_or-drop, length-take, length-drop, drop-map}
+use Rattle.std.proofs.Common.{◌≡◌, ℕ, ◌+◌, ◌<◌, ◌≤◌, Bool, true, false, All, List, [], ◌∷◌, ◌++◌, length, map, take, drop, get_or, refl, sym, subst, ◌∙◌, ap, arith}
+use Rattle.std.proofs.lemmas.List.{take-append-drop, append-nil, map-append, get_or-map, length-map, get_or-take, get_or-drop, length-take, length-drop, drop-map, take-map}
 use Rattle.std.proofs.lemmas.List.Elements.{filter-append, All-head, All-tail}
 use Rattle.std.proofs.lemmas.List.Sorted.{sorted_far}
 use Rattle.std.specs.List.{filter, list_any, AllWithin}
@@ -33,6 +33,17 @@ sorted_drop {X} less f n ys le sorted k d low high =
     subst (λ (zs : List X). less (get_or zs (k + 1) d) (get_or zs k d) ≡ false) (drop-map f n ys)
     ((λ i. less ((get_or-drop n (map f ys) (k + 1) d ∙ ap (λ (m : ℕ). get_or (map f ys) m d) up) i) (get_or-drop n (map f ys) k d i)) ∙ sorted (n + k) d (omega arith) (omega arith))
 
+-- the front of sorted items is sorted
+pub sorted_take : {X : Type 0} (less : X → X → Bool) {Y : Type 0} (f : Y → X) (n : ℕ) (ys : List Y) → n ≤ length ys → IsSortedBy less (map f ys) → IsSortedBy less (map f (take n ys))
+sorted_take {X} less f n ys le sorted k d low high =
+    let size = length-map (take n ys) f in
+    let front = length-take n ys in
+    let all = length-map ys f in
+    let below : k + 1 < n = omega arith in
+    let before : k < n = omega arith in
+    subst (λ (zs : List X). less (get_or zs (k + 1) d) (get_or zs k d) ≡ false) (take-map f n ys)
+    ((λ i. less (get_or-take n (map f ys) (k + 1) d below i) (get_or-take n (map f ys) k d before i)) ∙ sorted k d low (omega arith))
+
 -- ---- where a search divides sorted items
 
 module _ {X : Type 0} (f : X → Row) (xs : List X) (sorted : IsSorted row_cmp (map f xs)) where
@@ -60,6 +71,26 @@ module _ {X : Type 0} (f : X → Row) (xs : List X) (sorted : IsSorted row_cmp (
       false_of true e = cc
       false_of false e = refl
 
+opposite : (b : Bool) → (not b ≡ true → ⊥) → b ≡ true
+opposite true g = refl
+opposite false g = absurd (g refl)
+
+-- where a search among the first items ends before their end, it ends there among all
+pub near_greater : {X : Type 0} (f : X → Row) (k : Row) (xs : List X) → IsSorted row_cmp (map f xs) → (m n : ℕ) → n < m → m ≤ length xs
+    → All (λ y. row_less k (f y) ≡ true) (drop n (take m xs)) → All (λ y. row_less k (f y) ≡ true) (drop n xs)
+near_greater {X} f k xs sorted m n lt le greater i d low =
+    let size = length-drop n xs in
+    let near = length-take m xs in
+    let left = length-drop n (take m xs) in
+    let none : n + 0 ≡ n = omega arith in
+    let at : get_or (drop n (take m xs)) 0 d ≡ get_or xs n d =
+    get_or-drop n (take m xs) 0 d ∙ ap (λ (j : ℕ). get_or (take m xs) j d) none ∙ get_or-take m xs n d lt in
+    let here : row_less k (f (get_or xs n d)) ≡ true = subst (λ (y : X). row_less k (f y) ≡ true) at (greater 0 d (omega arith)) in
+    subst (λ (y : X). row_less k (f y) ≡ true) (sym (get_or-drop n xs i d))
+    (opposite (row_less k (f (get_or xs (n + i) d))) (λ no.
+    let bad = reached_first f xs sorted k n (n + i) d (omega arith) (omega arith) no in
+    let clash = ap not here in cc))
+
 -- what a search says, as facts of the two parts
 pub front_part : {X : Type 0} (P : X → Type 0) (xs : List X) (n : ℕ) → n ≤ length xs → AllWithin P xs 0 n → All P (take n xs)
 front_part P xs n le within k d lt =
@@ -74,29 +105,35 @@ back_part P xs n le within k d lt =
 
 -- ---- the range that was found
 
-none_of : (p : Row → Bool) (xs : List (Bor Row)) → All (λ x. p x.now ≡ false) xs → filter p (map (λ x. x.now) xs) ≡ []
-none_of p [] all = refl
-none_of p (x ∷ xs) all =
-    ap (λ (b : Bool). cond b (x.now ∷ filter p (map (λ x. x.now) xs)) (filter p (map (λ x. x.now) xs))) (All-head (λ x. p x.now ≡ false) x xs all)
-    ∙ none_of p xs (All-tail (λ x. p x.now ≡ false) x xs all)
+module _ {X : Type 0} (now : X → Row) where
+  none_of : (p : Row → Bool) (xs : List X) → All (λ x. p (now x) ≡ false) xs → filter p (map now xs) ≡ []
+  none_of p [] all = refl
+  none_of p (x ∷ xs) all =
+      ap (λ (b : Bool). cond b (now x ∷ filter p (map now xs)) (filter p (map now xs))) (All-head (λ x. p (now x) ≡ false) x xs all)
+      ∙ none_of p xs (All-tail (λ x. p (now x) ≡ false) x xs all)
 
-all_of : (p : Row → Bool) (xs : List (Bor Row)) → All (λ x. p x.now ≡ true) xs → filter p (map (λ x. x.now) xs) ≡ map (λ x. x.now) xs
-all_of p [] all = refl
-all_of p (x ∷ xs) all =
-    ap (λ (b : Bool). cond b (x.now ∷ filter p (map (λ x. x.now) xs)) (filter p (map (λ x. x.now) xs))) (All-head (λ x. p x.now ≡ true) x xs all)
-    ∙ ap (λ (l : List Row). x.now ∷ l) (all_of p xs (All-tail (λ x. p x.now ≡ true) x xs all))
+  all_of : (p : Row → Bool) (xs : List X) → All (λ x. p (now x) ≡ true) xs → filter p (map now xs) ≡ map now xs
+  all_of p [] all = refl
+  all_of p (x ∷ xs) all =
+      ap (λ (b : Bool). cond b (now x ∷ filter p (map now xs)) (filter p (map now xs))) (All-head (λ x. p (now x) ≡ true) x xs all)
+      ∙ ap (λ (l : List Row). now x ∷ l) (all_of p xs (All-tail (λ x. p (now x) ≡ true) x xs all))
 
 differ : (a b : Row) → row_less a b ≡ true → same_row a b ≡ false
 differ a b less = false_from row_less same_row rows_strict (same_row a b) (λ tie. let bad = rows_strict.tied a b tie in cc)
 
-module _ (keys : List (ℕ × ℕ)) (row : Row) (sorted : List (Bor Row)) (s n : ℕ) where
+-- what holds of the keys as they are compared holds of the rows' keys
+pub rekeyed : {X : Type 0} (now of : X → Row) (keys : List (ℕ × ℕ)) (P : Row → Type 0) (xs : List X) → All (λ x. of x ≡ other_key keys (now x)) xs
+    → All (λ x. P (of x)) xs → All (λ x. P (other_key keys (now x))) xs
+rekeyed now of keys P xs keyed all i d lt = subst P (keyed i d lt) (all i d lt)
+
+module _ {X : Type 0} (now : X → Row) (keys : List (ℕ × ℕ)) (row : Row) (sorted : List X) (s n : ℕ) where
   abbrev k : Row
   k = own_key keys row
 
-  abbrev of : Bor Row → Row
-  of other = other_key keys other.now
+  abbrev of : X → Row
+  of other = other_key keys (now other)
 
-  abbrev rest : List (Bor Row)
+  abbrev rest : List X
   rest = drop s sorted
 
   unequal : (other : Row) → same_row k (other_key keys other) ≡ false → matches keys row other ≡ false
@@ -109,33 +146,32 @@ module _ (keys : List (ℕ × ℕ)) (row : Row) (sorted : List (Bor Row)) (s n :
   equal : list_any is_null k ≡ false → (other : Row) → k ≡ other_key keys other → matches keys row other ≡ true
   equal full other one = matches_is keys row other ∙ (λ i. not (full i) && same_row k (sym one i)) ∙ rows_strict.itself k
 
-  pub with_null : list_any is_null k ≡ true → filter (matches keys row) (map (λ other. other.now) sorted) ≡ []
-  with_null null = none_of (matches keys row) sorted (λ i d lt.
+  pub with_null : list_any is_null k ≡ true → filter (matches keys row) (map now sorted) ≡ []
+  with_null null = none_of now (matches keys row) sorted (λ i d lt.
       let other = get_or sorted i d in
-      matches_is keys row other.now ∙ ap (λ (b : Bool). not b && same_row k (of other)) null)
+      matches_is keys row (now other) ∙ ap (λ (b : Bool). not b && same_row k (of other)) null)
 
   pub found : list_any is_null k ≡ false
       → All (λ other. row_less (of other) k ≡ true) (take s sorted) → All (λ other. row_less (of other) k ≡ false) (drop s sorted)
       → All (λ other. row_less k (of other) ≡ false) (take n rest) → All (λ other. row_less k (of other) ≡ true) (drop n rest)
-      → map (λ other. other.now) (take n rest) ≡ filter (matches keys row) (map (λ other. other.now) sorted)
+      → map now (take n rest) ≡ filter (matches keys row) (map now sorted)
   found full less reached same greater =
       let p = matches keys row in
-      let now = λ (other : Bor Row). other.now in
       let front : filter p (map now (take s sorted)) ≡ [] =
-      none_of p (take s sorted) (λ i d lt. let other = get_or (take s sorted) i d in unequal other.now (same-swapped k (of other) ∙ differ (of other) k (less i d lt))) in
+      none_of now p (take s sorted) (λ i d lt. let other = get_or (take s sorted) i d in unequal (now other) (same-swapped k (of other) ∙ differ (of other) k (less i d lt))) in
       let middle : filter p (map now (take n rest)) ≡ map now (take n rest) =
-      all_of p (take n rest) (λ i d lt.
+      all_of now p (take n rest) (λ i d lt.
       let other = get_or (take n rest) i d in
       let size = length-take n rest in
       let behind : row_less (of other) k ≡ false =
-      subst (λ (one : Bor Row). row_less (of one) k ≡ false) (sym (get_or-take n rest i d (omega arith))) (reached i d (omega arith)) in
-      equal full other.now (rows_strict.apart k (of other) (same i d lt) behind)) in
+      subst (λ (one : X). row_less (of one) k ≡ false) (sym (get_or-take n rest i d (omega arith))) (reached i d (omega arith)) in
+      equal full (now other) (rows_strict.apart k (of other) (same i d lt) behind)) in
       let back : filter p (map now (drop n rest)) ≡ [] =
-      none_of p (drop n rest) (λ i d lt. let other = get_or (drop n rest) i d in unequal other.now (differ k (of other) (greater i d lt))) in
+      none_of now p (drop n rest) (λ i d lt. let other = get_or (drop n rest) i d in unequal (now other) (differ k (of other) (greater i d lt))) in
       sym (
-      ap (λ (l : List (Bor Row)). filter p (map now l)) (sym (take-append-drop s sorted))
+      ap (λ (l : List X). filter p (map now l)) (sym (take-append-drop s sorted))
       ∙ ap (filter p) (map-append now (take s sorted) rest) ∙ filter-append p (map now (take s sorted)) (map now rest)
       ∙ ap (λ (l : List Row). l ++ filter p (map now rest)) front
-      ∙ ap (λ (l : List (Bor Row)). filter p (map now l)) (sym (take-append-drop n rest))
+      ∙ ap (λ (l : List X). filter p (map now l)) (sym (take-append-drop n rest))
       ∙ ap (filter p) (map-append now (take n rest) (drop n rest)) ∙ filter-append p (map now (take n rest)) (map now (drop n rest))
       ∙ (λ i. middle i ++ back i) ∙ append-nil (map now (take n rest)))

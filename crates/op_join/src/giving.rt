@@ -4,8 +4,10 @@ ghost use Rattle.std.specs.List.Sorted.{IsSorted};
 ghost use Rattle.row_core.specs.Bags.{SameBag};
 ghost use Rattle.row_core.specs.Values.{row_cmp};
 ghost use Rattle.plan_model.specs.Joins.{matches, nulls, or_padded, if_matched, if_unmatched};
-ghost use Rattle.op_join.specs.Sides.{given, other_key};
+ghost use Rattle.op_join.specs.Sides.{given};
+ghost use Rattle.op_join.specs.Keys.{other_key_of, AreKeyed};
 
+use crate::keyed::Keyed;
 use crate::matching::{by_other_key, matches_of};
 use crate::rule::Rule;
 use row_core::{NoMemory, Row, Rows, Value};
@@ -32,10 +34,11 @@ fn give_sorted(
     width: u32,
     keys: &[(u32, u32)],
     rows: &[Row],
-    sorted: &[&Row],
+    sorted: &[Keyed],
 ) -> Result<Rows, NoMemory>
-    requires { IsSorted row_cmp (map (λ other. other_key keys.now other.now) sorted.now) }
-    ensures { IfOk result (λ made. made ≡ flat_map (λ row. given rule width row (filter (matches keys.now row) (map (λ other. other.now) sorted.now))) rows.now) }
+    requires keyed { AreKeyed keys.now sorted.now }
+    requires order { IsSorted row_cmp (map (other_key_of keys.now) sorted.now) }
+    ensures { IfOk result (λ made. made ≡ flat_map (λ row. given rule width row (filter (matches keys.now row) (map (λ other. other.row.now) sorted.now))) rows.now) }
 {
     let mut made = Rows::new(alloc);
     for row in rows {
@@ -51,9 +54,9 @@ fn give(
     rule: Rule,
     width: u32,
     row: &Row,
-    matches: &[&Row],
+    matches: &[Keyed],
 ) -> Result<(), NoMemory>
-    ensures { OnOk result (made.new ≡ made.old ++ given rule width row.now (map (λ other. other.now) matches.now)) }
+    ensures { OnOk result (made.new ≡ made.old ++ given rule width row.now (map (λ other. other.row.now) matches.now)) }
 {
     match rule {
         Rule::Pairs => push_pairs(alloc, made, row, matches),
@@ -70,9 +73,9 @@ fn push_pairs_or_padded(
     made: &mut Rows,
     width: u32,
     row: &Row,
-    matches: &[&Row],
+    matches: &[Keyed],
 ) -> Result<(), NoMemory>
-    ensures { OnOk result (made.new ≡ made.old ++ or_padded (row.now ++ nulls width) (map (λ other. row.now ++ other) (map (λ other. other.now) matches.now))) }
+    ensures { OnOk result (made.new ≡ made.old ++ or_padded (row.now ++ nulls width) (map (λ other. row.now ++ other) (map (λ other. other.row.now) matches.now))) }
 {
     if matches.is_empty() {
         return push_before_nulls(alloc, made, row, width);
@@ -85,9 +88,9 @@ fn push_mirrored_or_padded(
     made: &mut Rows,
     width: u32,
     row: &Row,
-    matches: &[&Row],
+    matches: &[Keyed],
 ) -> Result<(), NoMemory>
-    ensures { OnOk result (made.new ≡ made.old ++ or_padded (nulls width ++ row.now) (map (λ other. other ++ row.now) (map (λ other. other.now) matches.now))) }
+    ensures { OnOk result (made.new ≡ made.old ++ or_padded (nulls width ++ row.now) (map (λ other. other ++ row.now) (map (λ other. other.row.now) matches.now))) }
 {
     if matches.is_empty() {
         return push_behind_nulls(alloc, made, row, width);
@@ -100,9 +103,9 @@ fn push_padded_if_unmatched(
     made: &mut Rows,
     width: u32,
     row: &Row,
-    matches: &[&Row],
+    matches: &[Keyed],
 ) -> Result<(), NoMemory>
-    ensures { OnOk result (made.new ≡ made.old ++ if_unmatched (nulls width ++ row.now) (map (λ other. other.now) matches.now)) }
+    ensures { OnOk result (made.new ≡ made.old ++ if_unmatched (nulls width ++ row.now) (map (λ other. other.row.now) matches.now)) }
 {
     if !matches.is_empty() {
         return Ok(());
@@ -114,9 +117,9 @@ fn push_if_matched(
     alloc: Global,
     made: &mut Rows,
     row: &Row,
-    matches: &[&Row],
+    matches: &[Keyed],
 ) -> Result<(), NoMemory>
-    ensures { OnOk result (made.new ≡ made.old ++ if_matched row.now (map (λ other. other.now) matches.now)) }
+    ensures { OnOk result (made.new ≡ made.old ++ if_matched row.now (map (λ other. other.row.now) matches.now)) }
 {
     if matches.is_empty() {
         return Ok(());
@@ -128,9 +131,9 @@ fn push_if_unmatched(
     alloc: Global,
     made: &mut Rows,
     row: &Row,
-    matches: &[&Row],
+    matches: &[Keyed],
 ) -> Result<(), NoMemory>
-    ensures { OnOk result (made.new ≡ made.old ++ if_unmatched row.now (map (λ other. other.now) matches.now)) }
+    ensures { OnOk result (made.new ≡ made.old ++ if_unmatched row.now (map (λ other. other.row.now) matches.now)) }
 {
     if matches.is_empty() {
         return push_copy(alloc, made, row);
@@ -138,11 +141,11 @@ fn push_if_unmatched(
     Ok(())
 }
 
-fn push_pairs(alloc: Global, made: &mut Rows, row: &Row, matches: &[&Row]) -> Result<(), NoMemory>
-    ensures { OnOk result (made.new ≡ made.old ++ map (λ other. row.now ++ other) (map (λ other. other.now) matches.now)) }
+fn push_pairs(alloc: Global, made: &mut Rows, row: &Row, matches: &[Keyed]) -> Result<(), NoMemory>
+    ensures { OnOk result (made.new ≡ made.old ++ map (λ other. row.now ++ other) (map (λ other. other.row.now) matches.now)) }
 {
     for other in matches {
-        made.push(joined_row(alloc, row, other)?)?;
+        made.push(joined_row(alloc, row, other.row)?)?;
     }
     Ok(())
 }
@@ -151,12 +154,12 @@ fn push_mirrored(
     alloc: Global,
     made: &mut Rows,
     row: &Row,
-    matches: &[&Row],
+    matches: &[Keyed],
 ) -> Result<(), NoMemory>
-    ensures { OnOk result (made.new ≡ made.old ++ map (λ other. other ++ row.now) (map (λ other. other.now) matches.now)) }
+    ensures { OnOk result (made.new ≡ made.old ++ map (λ other. other ++ row.now) (map (λ other. other.row.now) matches.now)) }
 {
     for other in matches {
-        made.push(joined_row(alloc, other, row)?)?;
+        made.push(joined_row(alloc, other.row, row)?)?;
     }
     Ok(())
 }

@@ -5,7 +5,9 @@
 mod cells;
 mod giving;
 mod joining;
+mod keyed;
 mod laws;
+mod lead;
 mod matching;
 mod rule;
 #[cfg(test)]

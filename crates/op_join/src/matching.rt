@@ -5,47 +5,63 @@ ghost use Rattle.row_core.specs.Exprs.{is_null};
 ghost use Rattle.row_core.specs.Values.{row_cmp};
 ghost use Rattle.bag_laws.specs.Rows.{row_less};
 ghost use Rattle.plan_model.specs.Joins.{matches};
-ghost use Rattle.op_join.specs.Sides.{own_key, other_key};
+ghost use Rattle.op_join.specs.Sides.{own_key};
+ghost use Rattle.op_join.specs.Keys.{own_key_of, other_key_of, AreKeyed};
 
-use crate::cells::{cell, cmp_cells, lacks};
+use crate::cells::{cell, lacks};
+use crate::keyed::{Keyed, cmp_from, cmp_others, cmp_to, other_keyed, own_keyed};
 use row_core::{NoMemory, Row};
 use std::alloc::Global;
-use std::cmp::Ordering;
+
+// Within so many rows the end of a row's matches is looked for first.
+const NEAR: usize = 4;
 
 /// The rows of the other side in the order of their keys, without a copy of their values.
 pub fn by_other_key<'a>(
     alloc: Global,
     keys: &[(u32, u32)],
     others: &'a [Row],
-) -> Result<Vec<&'a Row>, NoMemory>
-    ensures rows { IfOk result (λ sorted. IsPermutation others.now (map (λ other. other.now) sorted.items)) }
-    ensures order { IfOk result (λ sorted. IsSorted row_cmp (map (λ other. other_key keys.now other.now) sorted.items)) }
+) -> Result<Vec<Keyed<'a>>, NoMemory>
+    ensures rows { IfOk result (λ sorted. IsPermutation others.now (map (λ other. other.row.now) sorted.items)) }
+    ensures keyed { IfOk result (λ sorted. AreKeyed keys.now sorted.items) }
+    ensures order { IfOk result (λ sorted. IsSorted row_cmp (map (other_key_of keys.now) sorted.items)) }
 {
-    let mut sorted = borrowed(alloc, others)?;
+    let mut sorted = keyed(alloc, keys, others)?;
     sorted.sort_unstable_by(|a, b| cmp_others(keys, a, b));
     Ok(sorted)
 }
 
-fn borrowed<'a>(alloc: Global, rows: &'a [Row]) -> Result<Vec<&'a Row>, NoMemory>
-    ensures { IfOk result (λ all. map (λ row. row.now) all.items ≡ rows.now) }
+fn keyed<'a>(
+    alloc: Global,
+    keys: &[(u32, u32)],
+    rows: &'a [Row],
+) -> Result<Vec<Keyed<'a>>, NoMemory>
+    ensures rows { IfOk result (λ all. map (λ other. other.row.now) all.items ≡ rows.now) }
+    ensures keyed { IfOk result (λ all. AreKeyed keys.now all.items) }
 {
     let mut all = Vec::with_capacity(alloc, rows.len())?;
     for row in rows {
-        all.push(row)?;
+        all.push(other_keyed(keys, row))?;
     }
     Ok(all)
 }
 
 /// The rows of the other side, sorted by their keys, that match a row of the one.
-pub fn matches_of<'a, 'b>(keys: &[(u32, u32)], row: &Row, sorted: &'b [&'a Row]) -> &'b [&'a Row]
-    requires { IsSorted row_cmp (map (λ other. other_key keys.now other.now) sorted.now) }
-    ensures { map (λ other. other.now) result.now ≡ filter (matches keys.now row.now) (map (λ other. other.now) sorted.now) }
+pub fn matches_of<'a, 'b>(
+    keys: &[(u32, u32)],
+    row: &Row,
+    sorted: &'b [Keyed<'a>],
+) -> &'b [Keyed<'a>]
+    requires keyed { AreKeyed keys.now sorted.now }
+    requires order { IsSorted row_cmp (map (other_key_of keys.now) sorted.now) }
+    ensures { map (λ other. other.row.now) result.now ≡ filter (matches keys.now row.now) (map (λ other. other.row.now) sorted.now) }
 {
     if has_null(keys, row) {
         return &sorted[..0];
     }
-    let rest = &sorted[count_less(keys, row, sorted)..];
-    &rest[..count_reached(keys, row, rest)]
+    let row = own_keyed(keys, row);
+    let rest = &sorted[count_less(keys, &row, sorted)..];
+    &rest[..count_reached(keys, &row, rest)]
 }
 
 // Whether a value of the row's key is Null, so that nothing matches it.
@@ -59,59 +75,35 @@ fn has_null(keys: &[(u32, u32)], row: &Row) -> bool
 }
 
 // How many rows at the front have a lesser key.
-fn count_less(keys: &[(u32, u32)], row: &Row, sorted: &[&Row]) -> usize
-    requires { IsSorted row_cmp (map (λ other. other_key keys.now other.now) sorted.now) }
+fn count_less(keys: &[(u32, u32)], row: &Keyed, sorted: &[Keyed]) -> usize
+    requires { IsSorted row_cmp (map (other_key_of keys.now) sorted.now) }
     ensures bound { result ≤ length sorted.now }
-    ensures less { All (λ other. row_less (other_key keys.now other.now) (own_key keys.now row.now) ≡ true) (take result sorted.now) }
-    ensures reached { All (λ other. row_less (other_key keys.now other.now) (own_key keys.now row.now) ≡ false) (drop result sorted.now) }
+    ensures less { All (λ other. row_less (other_key_of keys.now other) (own_key_of keys.now row.now) ≡ true) (take result sorted.now) }
+    ensures reached { All (λ other. row_less (other_key_of keys.now other) (own_key_of keys.now row.now) ≡ false) (drop result sorted.now) }
 {
     sorted.partition_point(|other| cmp_to(keys, other, row).is_lt())
 }
 
-// How many rows at the front have no greater key.
-fn count_reached(keys: &[(u32, u32)], row: &Row, sorted: &[&Row]) -> usize
-    requires { IsSorted row_cmp (map (λ other. other_key keys.now other.now) sorted.now) }
+// How many rows at the front have no greater key. Mostly few do, so the first few are looked at before all.
+fn count_reached(keys: &[(u32, u32)], row: &Keyed, sorted: &[Keyed]) -> usize
+    requires { IsSorted row_cmp (map (other_key_of keys.now) sorted.now) }
     ensures bound { result ≤ length sorted.now }
-    ensures reached { All (λ other. row_less (own_key keys.now row.now) (other_key keys.now other.now) ≡ false) (take result sorted.now) }
-    ensures greater { All (λ other. row_less (own_key keys.now row.now) (other_key keys.now other.now) ≡ true) (drop result sorted.now) }
+    ensures reached { All (λ other. row_less (own_key_of keys.now row.now) (other_key_of keys.now other) ≡ false) (take result sorted.now) }
+    ensures greater { All (λ other. row_less (own_key_of keys.now row.now) (other_key_of keys.now other) ≡ true) (drop result sorted.now) }
+{
+    let near = &sorted[..sorted.len().min(NEAR)];
+    let count = count_reached_among(keys, row, near);
+    if count < near.len() {
+        return count;
+    }
+    count_reached_among(keys, row, sorted)
+}
+
+fn count_reached_among(keys: &[(u32, u32)], row: &Keyed, sorted: &[Keyed]) -> usize
+    requires { IsSorted row_cmp (map (other_key_of keys.now) sorted.now) }
+    ensures bound { result ≤ length sorted.now }
+    ensures reached { All (λ other. row_less (own_key_of keys.now row.now) (other_key_of keys.now other) ≡ false) (take result sorted.now) }
+    ensures greater { All (λ other. row_less (own_key_of keys.now row.now) (other_key_of keys.now other) ≡ true) (drop result sorted.now) }
 {
     sorted.partition_point(|other| !cmp_from(keys, row, other).is_lt())
-}
-
-// The order of two rows of the other side by their keys.
-fn cmp_others(keys: &[(u32, u32)], a: &Row, b: &Row) -> Ordering
-    ensures { result ≡ row_cmp (other_key keys.now a.now) (other_key keys.now b.now) }
-{
-    match keys.split_first() {
-        None => Ordering::Equal,
-        Some((pair, others)) => match cmp_cells(cell(a, pair.1), cell(b, pair.1)) {
-            Ordering::Equal => cmp_others(others, a, b),
-            unequal => unequal,
-        },
-    }
-}
-
-// The order of a row of the other side and one of the one side by their keys.
-fn cmp_to(keys: &[(u32, u32)], other: &Row, row: &Row) -> Ordering
-    ensures { result ≡ row_cmp (other_key keys.now other.now) (own_key keys.now row.now) }
-{
-    match keys.split_first() {
-        None => Ordering::Equal,
-        Some((pair, others)) => match cmp_cells(cell(other, pair.1), cell(row, pair.0)) {
-            Ordering::Equal => cmp_to(others, other, row),
-            unequal => unequal,
-        },
-    }
-}
-
-fn cmp_from(keys: &[(u32, u32)], row: &Row, other: &Row) -> Ordering
-    ensures { result ≡ row_cmp (own_key keys.now row.now) (other_key keys.now other.now) }
-{
-    match keys.split_first() {
-        None => Ordering::Equal,
-        Some((pair, others)) => match cmp_cells(cell(row, pair.0), cell(other, pair.1)) {
-            Ordering::Equal => cmp_from(others, row, other),
-            unequal => unequal,
-        },
-    }
 }

@@ -5,24 +5,24 @@ use Rattle.op_join.proofs.giving.give.Goals as goal
 
 pub returns-in-Pairs : goal.returns-in-Pairs
 returns-in-Pairs c =
-    subst (λ (rule : Rule). OnOk c.push_pairs.result (c.push_pairs.new.made ≡ c.args.made.now ++ given rule c.args.width c.args.row.now (map (λ other. other.now) c.args.matches.now))) (sym c.in-Pairs.is) c.push_pairs.ensures
+    subst (λ (rule : Rule). OnOk c.push_pairs.result (c.push_pairs.new.made ≡ c.args.made.now ++ given rule c.args.width c.args.row.now (map (λ other. other.row.now) c.args.matches.now))) (sym c.in-Pairs.is) c.push_pairs.ensures
 
 pub returns-in-PairsOrPadded : goal.returns-in-PairsOrPadded
 returns-in-PairsOrPadded c =
-    subst (λ (rule : Rule). OnOk c.push_pairs_or_padded.result (c.push_pairs_or_padded.new.made ≡ c.args.made.now ++ given rule c.args.width c.args.row.now (map (λ other. other.now) c.args.matches.now))) (sym c.in-PairsOrPadded.is) c.push_pairs_or_padded.ensures
+    subst (λ (rule : Rule). OnOk c.push_pairs_or_padded.result (c.push_pairs_or_padded.new.made ≡ c.args.made.now ++ given rule c.args.width c.args.row.now (map (λ other. other.row.now) c.args.matches.now))) (sym c.in-PairsOrPadded.is) c.push_pairs_or_padded.ensures
 
 pub returns-in-MirroredOrPadded : goal.returns-in-MirroredOrPadded
 returns-in-MirroredOrPadded c =
-    subst (λ (rule : Rule). OnOk c.push_mirrored_or_padded.result (c.push_mirrored_or_padded.new.made ≡ c.args.made.now ++ given rule c.args.width c.args.row.now (map (λ other. other.now) c.args.matches.now))) (sym c.in-MirroredOrPadded.is) c.push_mirrored_or_padded.ensures
+    subst (λ (rule : Rule). OnOk c.push_mirrored_or_padded.result (c.push_mirrored_or_padded.new.made ≡ c.args.made.now ++ given rule c.args.width c.args.row.now (map (λ other. other.row.now) c.args.matches.now))) (sym c.in-MirroredOrPadded.is) c.push_mirrored_or_padded.ensures
 
 pub returns-in-PaddedIfUnmatched : goal.returns-in-PaddedIfUnmatched
 returns-in-PaddedIfUnmatched c =
-    subst (λ (rule : Rule). OnOk c.push_padded_if_unmatched.result (c.push_padded_if_unmatched.new.made ≡ c.args.made.now ++ given rule c.args.width c.args.row.now (map (λ other. other.now) c.args.matches.now))) (sym c.in-PaddedIfUnmatched.is) c.push_padded_if_unmatched.ensures
+    subst (λ (rule : Rule). OnOk c.push_padded_if_unmatched.result (c.push_padded_if_unmatched.new.made ≡ c.args.made.now ++ given rule c.args.width c.args.row.now (map (λ other. other.row.now) c.args.matches.now))) (sym c.in-PaddedIfUnmatched.is) c.push_padded_if_unmatched.ensures
 
 pub returns-in-RowIfMatched : goal.returns-in-RowIfMatched
 returns-in-RowIfMatched c =
-    subst (λ (rule : Rule). OnOk c.push_if_matched.result (c.push_if_matched.new.made ≡ c.args.made.now ++ given rule c.args.width c.args.row.now (map (λ other. other.now) c.args.matches.now))) (sym c.in-RowIfMatched.is) c.push_if_matched.ensures
+    subst (λ (rule : Rule). OnOk c.push_if_matched.result (c.push_if_matched.new.made ≡ c.args.made.now ++ given rule c.args.width c.args.row.now (map (λ other. other.row.now) c.args.matches.now))) (sym c.in-RowIfMatched.is) c.push_if_matched.ensures
 
 pub returns-in-RowIfUnmatched : goal.returns-in-RowIfUnmatched
 returns-in-RowIfUnmatched c =
-    subst (λ (rule : Rule). OnOk c.push_if_unmatched.result (c.push_if_unmatched.new.made ≡ c.args.made.now ++ given rule c.args.width c.args.row.now (map (λ other. other.now) c.args.matches.now))) (sym c.in-RowIfUnmatched.is) c.push_if_unmatched.ensures
+    subst (λ (rule : Rule). OnOk c.push_if_unmatched.result (c.push_if_unmatched.new.made ≡ c.args.made.now ++ given rule c.args.width c.args.row.now (map (λ other. other.row.now) c.args.matches.now))) (sym c.in-RowIfUnmatched.is) c.push_if_unmatched.ensures

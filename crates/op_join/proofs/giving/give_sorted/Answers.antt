@@ -11,7 +11,7 @@ loop-row-preserved c =
     let rows = c.args.rows.now in
     let i = c.loop-row.row-index in
     let keys = c.args.keys.now in
-    let f = λ (row : Row). given c.args.rule c.args.width row (filter (matches keys row) (map (λ other. other.now) c.args.sorted.now)) in
+    let f = λ (row : Row). given c.args.rule c.args.width row (filter (matches keys row) (map (λ other. other.row.now) c.args.sorted.now)) in
     c.in_ok-give.ensures
     ∙ (λ j. c.loop-row.invariant j ++ given c.args.rule c.args.width c.row-item.result (c.matches_of-matches.ensures j))
     ∙ (λ j. flat_map f (take i rows) ++ f (c.row-item.is j))
