@@ -1,6 +1,5 @@
 -- What a row gives goes by the bag of its matches.
-use Rattle.std.proofs.Common.{◌≡◌, ℕ, eqb, eqb-true, Bool, true, false, Bor, List, [], ◌∷◌, ◌++◌, length, map, refl, arith}
-use Rattle.std.proofs.lemmas.List.{nil_from_length}
+use Rattle.std.proofs.Common.{◌≡◌, ℕ, Bool, List, [], ◌∷◌, ◌++◌, length, map, refl, sym, ap, ◌∙◌, append_assoc, arith}
 use Rattle.std.proofs.lemmas.List.Sorted.{length_permutation}
 use Rattle.std.proofs.lemmas.List.Elements.{filter_agree}
 use Rattle.std.specs.List.{filter, flat_map}
@@ -76,20 +75,8 @@ joined_same kind.Full keys lw rw left left' right right' same same' =
 joined_same kind.Semi keys lw rw left left' right right' same same' = side_same RowIfMatched rw (matches keys) left left' right right' same same'
 joined_same kind.Anti keys lw rw left left' right right' same same' = side_same RowIfUnmatched rw (matches keys) left left' right right' same same'
 
--- ---- with matches that are pointed to, and without
-
-module _ (matches : List (Bor Row)) where
-  pub no_matches : eqb (length matches) 0 ≡ true → matches ≡ []
-  no_matches none = nil_from_length matches (eqb-true (length matches) 0 none)
-
-pub padded_some : (padded : Row) (f : Row → Row) (matches : List (Bor Row)) → eqb (length matches) 0 ≡ false → or_padded padded (map f (map (λ other. other.now) matches)) ≡ map f (map (λ other. other.now) matches)
-padded_some padded f [] some = cc
-padded_some padded f (x ∷ xs) some = refl
-
-pub matched_some : (row : Row) (matches : List (Bor Row)) → eqb (length matches) 0 ≡ false → if_matched row (map (λ other. other.now) matches) ≡ row ∷ []
-matched_some row [] some = cc
-matched_some row (x ∷ xs) some = refl
-
-pub unmatched_some : (row : Row) (matches : List (Bor Row)) → eqb (length matches) 0 ≡ false → if_unmatched row (map (λ other. other.now) matches) ≡ []
-unmatched_some row [] some = cc
-unmatched_some row (x ∷ xs) some = refl
+-- what the rows give of which one more was moved
+pub moved_more : (f : Row → List Row) (made made' : List Row) (row : Row) (rows rest : List Row) → rows ≡ row ∷ rest → made' ≡ made ++ f row
+    → made' ++ flat_map f rest ≡ made ++ flat_map f rows
+moved_more f made made' row rows rest steps now =
+    ap (λ (m : List Row). m ++ flat_map f rest) now ∙ append_assoc made (f row) (flat_map f rest) ∙ ap (λ (l : List Row). made ++ flat_map f l) (sym steps)

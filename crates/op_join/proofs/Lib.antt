@@ -1,3 +1,4 @@
 pub mod Alike
+pub mod Arms
 pub mod Ranges
 pub mod Kept

@@ -98,7 +98,7 @@ fn push_mirrored_or_padded(
     push_mirrored(alloc, made, row, matches)
 }
 
-fn push_padded_if_unmatched(
+pub fn push_padded_if_unmatched(
     alloc: Global,
     made: &mut Rows,
     width: u32,
@@ -141,7 +141,12 @@ fn push_if_unmatched(
     Ok(())
 }
 
-fn push_pairs(alloc: Global, made: &mut Rows, row: &Row, matches: &[Keyed]) -> Result<(), NoMemory>
+pub fn push_pairs(
+    alloc: Global,
+    made: &mut Rows,
+    row: &Row,
+    matches: &[Keyed],
+) -> Result<(), NoMemory>
     ensures { OnOk result (made.new ≡ made.old ++ map (λ other. row.now ++ other) (map (λ other. other.row.now) matches.now)) }
 {
     for other in matches {
@@ -150,7 +155,7 @@ fn push_pairs(alloc: Global, made: &mut Rows, row: &Row, matches: &[Keyed]) -> R
     Ok(())
 }
 
-fn push_mirrored(
+pub fn push_mirrored(
     alloc: Global,
     made: &mut Rows,
     row: &Row,
@@ -200,7 +205,7 @@ fn joined_row(alloc: Global, first: &Row, second: &Row) -> Result<Row, NoMemory>
     Ok(row)
 }
 
-fn push_values(alloc: Global, row: &mut Row, values: &[Value]) -> Result<(), NoMemory>
+pub fn push_values(alloc: Global, row: &mut Row, values: &[Value]) -> Result<(), NoMemory>
     ensures { OnOk result (row.new ≡ row.old ++ values.now) }
 {
     for value in values {
@@ -209,7 +214,7 @@ fn push_values(alloc: Global, row: &mut Row, values: &[Value]) -> Result<(), NoM
     Ok(())
 }
 
-fn push_nulls(row: &mut Row, width: u32) -> Result<(), NoMemory>
+pub fn push_nulls(row: &mut Row, width: u32) -> Result<(), NoMemory>
     ensures { OnOk result (row.new ≡ row.old ++ nulls width) }
 {
     for _place in 0..width {

@@ -42,8 +42,8 @@ pub fn join(
     }
 }
 
-// What the right rows give.
-fn give_right(
+/// What the right rows give.
+pub fn give_right(
     alloc: Global,
     rule: Rule,
     width: u32,
@@ -81,13 +81,13 @@ fn give_both(
     sum(made, unmatched)
 }
 
-fn turn(alloc: Global, keys: &[(u32, u32)]) -> Result<Vec<(u32, u32)>, NoMemory>
+pub fn turn(alloc: Global, keys: &[(u32, u32)]) -> Result<Vec<(u32, u32)>, NoMemory>
     ensures { IfOk result (λ pairs. pairs.items ≡ turned keys.now) }
 {
     keys.iter().map(|pair| (pair.1, pair.0)).collect(alloc)
 }
 
-fn sum(rows: Rows, more: Rows) -> Result<Rows, NoMemory>
+pub fn sum(rows: Rows, more: Rows) -> Result<Rows, NoMemory>
     ensures { IfOk result (λ sum. sum ≡ rows ++ more) }
 {
     let mut rows = rows.into_vec();

@@ -9,9 +9,12 @@ mod keyed;
 mod laws;
 mod lead;
 mod matching;
+mod moving;
+mod owned;
 mod rule;
 #[cfg(test)]
 mod tests;
 
 pub use joining::join;
 pub use laws::bags_are_kept;
+pub use owned::join_owned;

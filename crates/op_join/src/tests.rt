@@ -1,6 +1,6 @@
 ghost use Rattle.std.specs.Prelude.{◌<◌};
 
-use crate::join;
+use crate::{join, join_owned};
 use plan_model::{JoinKind, KeyPairs, Widths};
 use row_core::{Bytes, NoMemory, Row, Rows, Value};
 use std::alloc::Global;
@@ -135,7 +135,25 @@ fn joins_give_these_rows(rt: HostRuntime) -> Result<(), Fail> {
         let given = join(alloc, *kind, &keys, widths, &left, &right)?;
         let shown = show(alloc, &given)?;
         assert_eq!(rt; shown.as_slice(), wanted.as_bytes());
+        let moved = join_owned(alloc, *kind, &keys, widths, left, right)?;
+        let shown = show(alloc, &moved)?;
+        assert_eq!(rt; shown.as_slice(), wanted.as_bytes());
     }
+    Ok(())
+}
+
+// The second column on the left meets the first on the right, and the first the third, which a row lacks.
+#[test]
+fn keys_of_two_pairs_meet_at_both(rt: HostRuntime) -> Result<(), Fail> {
+    let alloc = rt.alloc();
+    let keys = KeyPairs::from_vec(vec![in alloc; (1, 0), (0, 2)]?);
+    let widths = Widths { left: 2, right: 3 };
+    let left = read_rows(alloc, "a #1;b #1;c #2;a #1;")?;
+    let right = read_rows(alloc, "#1 x a;#1 y b;#1 z;#2 w a;")?;
+    let wanted = "a #1 #1 x a;a #1 #1 x a;b #1 #1 y b;c #2 ? ? ?;";
+    let given = join(alloc, JoinKind::Left, &keys, widths, &left, &right)?;
+    let shown = show(alloc, &given)?;
+    assert_eq!(rt; shown.as_slice(), wanted.as_bytes());
     Ok(())
 }
 
@@ -164,5 +182,7 @@ fn many_rows_are_joined_quickly(rt: HostRuntime) -> Result<(), Fail> {
     assert_eq!(rt; pairs.len(), 200_000);
     let many = join(alloc, JoinKind::Full, &keys, widths, &same, &few)?;
     assert_eq!(rt; many.len(), 1_000_000);
+    let moved = join_owned(alloc, JoinKind::Semi, &keys, widths, each, same)?;
+    assert_eq!(rt; moved.len(), 1);
     Ok(())
 }
