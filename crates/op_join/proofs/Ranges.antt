@@ -1,5 +1,5 @@
 -- The matches of a row stand together where the other side is sorted by its keys.
-use Rattle.std.proofs.Common.{◌≡◌, ℕ, ◌+◌, ◌<◌, ◌≤◌, Bool, true, false, All, List, [], ◌∷◌, ◌++◌, length, map, take, drop, get_or, refl, sym, subst, ◌∙◌, ap, arith}
+use Rattle.std.proofs.Common.{◌≡◌, ℕ, ◌+◌, ◌-◌, ◌<◌, ◌≤◌, Bool, true, false, All, List, [], ◌∷◌, ◌++◌, length, map, take, drop, get_or, refl, sym, subst, ◌∙◌, ap, arith}
 use Rattle.std.proofs.lemmas.List.{take-append-drop, append-nil, map-append, get_or-map, length-map, get_or-take, get_or-drop, length-take, length-drop, drop-map, take-map}
 use Rattle.std.proofs.lemmas.List.Elements.{filter-append, All-head, All-tail}
 use Rattle.std.proofs.lemmas.List.Sorted.{sorted_far}
@@ -90,6 +90,45 @@ near_greater {X} f k xs sorted m n lt le greater i d low =
     (opposite (row_less k (f (get_or xs (n + i) d))) (λ no.
     let bad = reached_first f xs sorted k n (n + i) d (omega arith) (omega arith) no in
     let clash = ap not here in cc))
+
+-- where a search among some items ends within them, it ends there among all
+module _ {X : Type 0} (f : X → Row) (k : Row) (xs : List X) (sorted : IsSorted row_cmp (map f xs)) (a m n : ℕ) (some : 0 < n) (within : n < m) (fits : a + m ≤ length xs) where
+  at_near : (i : ℕ) (d : X) → i < m → get_or (take m (drop a xs)) i d ≡ get_or xs (a + i) d
+  at_near i d lt = get_or-take m (drop a xs) i d lt ∙ get_or-drop a xs i d
+
+  pub near_less : All (λ y. row_less (f y) k ≡ true) (take n (take m (drop a xs))) → All (λ y. row_less (f y) k ≡ true) (take (a + n) xs)
+  near_less less i d lt =
+      let size = length-take (a + n) xs in
+      let near = length-take m (drop a xs) in
+      let left = length-drop a xs in
+      let front = length-take n (take m (drop a xs)) in
+      let below : i < a + n = omega arith in
+      let last : n - 1 < n = omega arith in
+      let place : get_or (take n (take m (drop a xs))) (n - 1) d ≡ get_or xs (a + (n - 1)) d =
+      get_or-take n (take m (drop a xs)) (n - 1) d last ∙ at_near (n - 1) d (omega arith) in
+      let here : row_less (f (get_or xs (a + (n - 1)) d)) k ≡ true =
+      subst (λ (y : X). row_less (f y) k ≡ true) place (less (n - 1) d (omega arith)) in
+      subst (λ (y : X). row_less (f y) k ≡ true) (sym (get_or-take (a + n) xs i d below))
+      (less_first f xs sorted k i (a + (n - 1)) d (omega arith) (omega arith) here)
+
+  pub near_reached : All (λ y. row_less (f y) k ≡ false) (drop n (take m (drop a xs))) → All (λ y. row_less (f y) k ≡ false) (drop (a + n) xs)
+  near_reached reached i d lt =
+      let size = length-drop (a + n) xs in
+      let near = length-take m (drop a xs) in
+      let left = length-drop a xs in
+      let back = length-drop n (take m (drop a xs)) in
+      let none : n + 0 ≡ n = omega arith in
+      let place : get_or (drop n (take m (drop a xs))) 0 d ≡ get_or xs (a + n) d =
+      get_or-drop n (take m (drop a xs)) 0 d ∙ ap (λ (j : ℕ). get_or (take m (drop a xs)) j d) none ∙ at_near n d within in
+      let here : row_less (f (get_or xs (a + n) d)) k ≡ false =
+      subst (λ (y : X). row_less (f y) k ≡ false) place (reached 0 d (omega arith)) in
+      subst (λ (y : X). row_less (f y) k ≡ false) (sym (get_or-drop (a + n) xs i d))
+      (apart (row_less (f (get_or xs (a + n + i) d)) k) (λ holds.
+      let bad = less_first f xs sorted k (a + n) (a + n + i) d (omega arith) (omega arith) holds in cc))
+    where
+      apart : (b : Bool) → (b ≡ true → ⊥) → b ≡ false
+      apart true g = absurd (g refl)
+      apart false g = refl
 
 -- what a search says, as facts of the two parts
 pub front_part : {X : Type 0} (P : X → Type 0) (xs : List X) (n : ℕ) → n ≤ length xs → AllWithin P xs 0 n → All P (take n xs)

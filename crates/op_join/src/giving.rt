@@ -41,8 +41,9 @@ fn give_sorted(
     ensures { IfOk result (λ made. made ≡ flat_map (λ row. given rule width row (filter (matches keys.now row) (map (λ other. other.row.now) sorted.now))) rows.now) }
 {
     let mut made = Rows::new(alloc);
+    let mut last = 0;
     for row in rows {
-        let matches = matches_of(keys, row, sorted);
+        let matches = matches_of(keys, row, sorted, &mut last);
         give(alloc, &mut made, rule, width, row, matches)?;
     }
     Ok(made)

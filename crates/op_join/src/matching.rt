@@ -13,7 +13,7 @@ use crate::keyed::{Keyed, cmp_from, cmp_others, cmp_to, other_keyed, own_keyed};
 use row_core::{NoMemory, Row};
 use std::alloc::Global;
 
-// Within so many rows the end of a row's matches is looked for first.
+// So many rows are looked at before all others where a row's matches may begin or end.
 const NEAR: usize = 4;
 
 /// The rows of the other side in the order of their keys, without a copy of their values.
@@ -46,11 +46,13 @@ fn keyed<'a>(
     Ok(all)
 }
 
-/// The rows of the other side, sorted by their keys, that match a row of the one.
+/// The rows of the other side, sorted by their keys, that match a row of the one. They are looked for first
+/// where the matches of the last row began, so that rows in the order of their keys take one walk.
 pub fn matches_of<'a, 'b>(
     keys: &[(u32, u32)],
     row: &Row,
     sorted: &'b [Keyed<'a>],
+    last: &mut usize,
 ) -> &'b [Keyed<'a>]
     requires keyed { AreKeyed keys.now sorted.now }
     requires order { IsSorted row_cmp (map (other_key_of keys.now) sorted.now) }
@@ -60,7 +62,9 @@ pub fn matches_of<'a, 'b>(
         return &sorted[..0];
     }
     let row = own_keyed(keys, row);
-    let rest = &sorted[count_less(keys, &row, sorted)..];
+    let start = count_less(keys, &row, sorted, *last);
+    *last = start;
+    let rest = &sorted[start..];
     &rest[..count_reached(keys, &row, rest)]
 }
 
@@ -74,8 +78,24 @@ fn has_null(keys: &[(u32, u32)], row: &Row) -> bool
     }
 }
 
-// How many rows at the front have a lesser key.
-fn count_less(keys: &[(u32, u32)], row: &Keyed, sorted: &[Keyed]) -> usize
+// How many rows at the front have a lesser key. Those about the place that is given are looked at before all.
+fn count_less(keys: &[(u32, u32)], row: &Keyed, sorted: &[Keyed], place: usize) -> usize
+    requires { IsSorted row_cmp (map (other_key_of keys.now) sorted.now) }
+    ensures bound { result ≤ length sorted.now }
+    ensures less { All (λ other. row_less (other_key_of keys.now other) (own_key_of keys.now row.now) ≡ true) (take result sorted.now) }
+    ensures reached { All (λ other. row_less (other_key_of keys.now other) (own_key_of keys.now row.now) ≡ false) (drop result sorted.now) }
+{
+    let from = place.saturating_sub(1).min(sorted.len());
+    let to = place.saturating_add(NEAR).min(sorted.len());
+    let near = &sorted[from..to];
+    let count = count_less_among(keys, row, near);
+    if 0 < count && count < near.len() {
+        return from + count;
+    }
+    count_less_among(keys, row, sorted)
+}
+
+fn count_less_among(keys: &[(u32, u32)], row: &Keyed, sorted: &[Keyed]) -> usize
     requires { IsSorted row_cmp (map (other_key_of keys.now) sorted.now) }
     ensures bound { result ≤ length sorted.now }
     ensures less { All (λ other. row_less (other_key_of keys.now other) (own_key_of keys.now row.now) ≡ true) (take result sorted.now) }

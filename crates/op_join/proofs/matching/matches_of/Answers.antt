@@ -16,8 +16,8 @@ returns-then-has_null c = sym (with_null (λ (other : Keyed). other.row.now) c.a
 pub count_reached-requires : goal.count_reached-requires
 count_reached-requires c =
     let of = other_key_of c.args.keys.now in
-    subst (λ (rows : List Keyed). IsSorted row_cmp (map of rows)) (sym (take_rest c.args.sorted.now c.count_less.result))
-    (sorted_drop row_less of c.count_less.result c.args.sorted.now c.count_less.ensures.bound c.requires.order)
+    subst (λ (rows : List Keyed). IsSorted row_cmp (map of rows)) (sym (take_rest c.args.sorted.now c.count_less-start.result))
+    (sorted_drop row_less of c.count_less-start.result c.args.sorted.now c.count_less-start.ensures.bound c.requires.order)
 
 pub returns : goal.returns
 returns c =
@@ -27,7 +27,7 @@ returns c =
     let of = other_key_of keys in
     let k = own_key keys c.args.row.now in
     let key = c.own_keyed-row.ensures.key in
-    let s = c.count_less.result in
+    let s = c.count_less-start.result in
     let n = c.count_reached.result in
     let rest = drop s sorted in
     let left = take_rest sorted s in
@@ -36,9 +36,9 @@ returns c =
     ∙ found now keys c.args.row.now sorted s n (sym c.has_null.ensures ∙ c.if-has_null.false)
     (rekeyed now of keys (λ other. row_less other k ≡ true) (take s sorted)
     (All-take (λ (other : Keyed). of other ≡ other_key keys other.row.now) s sorted c.requires.keyed)
-    (subst (λ (own : Row). All (λ other. row_less (of other) own ≡ true) (take s sorted)) key c.count_less.ensures.less))
+    (subst (λ (own : Row). All (λ other. row_less (of other) own ≡ true) (take s sorted)) key c.count_less-start.ensures.less))
     (rekeyed now of keys (λ other. row_less other k ≡ false) rest behind
-    (subst (λ (own : Row). All (λ other. row_less (of other) own ≡ false) rest) key c.count_less.ensures.reached))
+    (subst (λ (own : Row). All (λ other. row_less (of other) own ≡ false) rest) key c.count_less-start.ensures.reached))
     (rekeyed now of keys (λ other. row_less k other ≡ false) (take n rest)
     (All-take (λ (other : Keyed). of other ≡ other_key keys other.row.now) n rest behind)
     (subst (λ (own : Row). All (λ other. row_less own (of other) ≡ false) (take n rest)) key
