@@ -4,3 +4,5 @@ pub mod Runs
 pub mod Pieces
 pub mod Sums
 pub mod Owed
+pub mod Matched
+pub mod Rests

@@ -14,3 +14,13 @@ pub fn distinct(alloc: Global, rows: &[Row]) -> Result<Rows, NoMemory>
     kept.dedup_by(|a, b| cmp_rows(a, b).is_eq());
     copies_of(alloc, kept.as_slice())
 }
+
+/// One of each row, of rows that are the call's own: the others are let go, and none is copied.
+pub fn distinct_owned(rows: Rows) -> Rows
+    ensures { SameBag result (one_of_each rows) }
+{
+    let mut rows = rows.into_vec();
+    rows.sort_unstable_by(|a, b| cmp_rows(a, b));
+    rows.dedup_by(|a, b| cmp_rows(a, b).is_eq());
+    Rows::from_vec(rows)
+}

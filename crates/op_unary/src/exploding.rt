@@ -17,6 +17,23 @@ pub fn explode(alloc: Global, column: u32, separator: u8, rows: &[Row]) -> Resul
     Ok(made)
 }
 
+/// What `explode` gives, of rows that are the call's own: each is let go as soon as it is used.
+pub fn explode_owned(
+    alloc: Global,
+    column: u32,
+    separator: u8,
+    rows: Rows,
+) -> Result<Rows, NoMemory>
+    requires { All (λ row. IsTrue (nat_lt column (length row))) rows }
+    ensures { IfOk result (λ made. made ≡ exploded column separator rows) }
+{
+    let mut made = Rows::new(alloc);
+    for row in rows.into_vec() {
+        explode_row(alloc, &mut made, column, separator, &row)?;
+    }
+    Ok(made)
+}
+
 fn explode_row(
     alloc: Global,
     made: &mut Rows,

@@ -16,4 +16,4 @@ mod telling;
 mod tests;
 
 pub use laws::{bags_are_kept, groups_go_by_keys, nodes_apply, rows_go_alone};
-pub use operators::apply;
+pub use operators::{apply, apply_owned};

@@ -5,10 +5,10 @@ ghost use Rattle.op_unary.specs.Applied.{applied, is_unary};
 
 use crate::aggregating::aggregate;
 use crate::cells::copies;
-use crate::each_once::distinct;
-use crate::exploding::explode;
-use crate::filtering::filter;
-use crate::projecting::project;
+use crate::each_once::{distinct, distinct_owned};
+use crate::exploding::{explode, explode_owned};
+use crate::filtering::{filter, filter_owned};
+use crate::projecting::{project, project_owned};
 use plan_model::Op;
 use row_core::{NoMemory, Rows};
 use std::alloc::Global;
@@ -32,6 +32,26 @@ pub fn apply(alloc: Global, op: &Op, rows: &Rows) -> Result<Rows, NoMemory>
             aggregate(alloc, keys.as_slice(), aggs.as_slice(), rows.as_slice())
         }
         Op::Distinct => distinct(alloc, rows.as_slice()),
+        Op::Source { .. } | Op::Join { .. } | Op::Sink { .. } => unreachable!(),
+    }
+}
+
+/// What `apply` gives, of rows that are the call's own: a row that stays as it is is moved, and each
+/// other is let go as soon as it is used.
+pub fn apply_owned(alloc: Global, op: &Op, rows: Rows) -> Result<Rows, NoMemory>
+    requires unary { IsTrue (is_unary op.now) }
+    requires columns { All (λ row. IsTrue (columns_fit op.now (length row ∷ []))) rows }
+    ensures { IfOk result (λ given. SameBag given (applied op.now rows)) }
+{
+    match op {
+        Op::Filter { test } => filter_owned(alloc, test, rows),
+        Op::Project { exprs } => project_owned(alloc, exprs.as_slice(), rows),
+        Op::Explode { column, separator } => explode_owned(alloc, *column, *separator, rows),
+        Op::Union => Ok(rows),
+        Op::Aggregate { keys, aggs } => {
+            aggregate(alloc, keys.as_slice(), aggs.as_slice(), rows.as_slice())
+        }
+        Op::Distinct => Ok(distinct_owned(rows)),
         Op::Source { .. } | Op::Join { .. } | Op::Sink { .. } => unreachable!(),
     }
 }

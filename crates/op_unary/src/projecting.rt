@@ -28,3 +28,15 @@ fn project_row(alloc: Global, exprs: &[Expr], row: &Row) -> Result<Row, NoMemory
     }
     Ok(made)
 }
+
+/// What `project` gives, of rows that are the call's own: each is let go as soon as it is used.
+pub fn project_owned(alloc: Global, exprs: &[Expr], rows: Rows) -> Result<Rows, NoMemory>
+    requires { All (λ row. IsTrue (list_all (columns_within (length row)) exprs.now)) rows }
+    ensures { IfOk result (λ made. made ≡ projected exprs.now rows) }
+{
+    let mut made = Rows::new(alloc);
+    for row in rows.into_vec() {
+        made.push(project_row(alloc, exprs, &row)?)?;
+    }
+    Ok(made)
+}

@@ -2,7 +2,7 @@ ghost use Rattle.std.specs.Prelude.{◌∷◌, [], All, IsTrue, length};
 ghost use Rattle.plan_model.specs.Checks.{columns_fit};
 ghost use Rattle.op_unary.specs.Applied.{is_unary};
 
-use crate::apply;
+use crate::{apply, apply_owned};
 use plan_model::{Agg, Aggs, Exprs, Op};
 use row_core::{Bytes, Cmp, Columns, Expr, NoMemory, Pred, Row, Rows, Value};
 use std::alloc::Global;
@@ -87,7 +87,7 @@ fn fits(op: &Op, rows: &[Row]) -> bool
     rows.iter().all(|row| row.len() < 1000 && op.columns_fit(&[row.len() as u32]))
 }
 
-// What the operator gives on some rows, in whatever order.
+// What the operator gives on some rows, in whatever order, and on rows that are its own.
 fn check(rt: &impl Abort, alloc: Global, op: &Op, cases: &[(&str, &str)]) -> Result<(), NoMemory>
     requires { IsTrue (is_unary op.now) }
 {
@@ -95,6 +95,9 @@ fn check(rt: &impl Abort, alloc: Global, op: &Op, cases: &[(&str, &str)]) -> Res
         let rows = read_rows(alloc, rows)?;
         assert!(rt; fits(op, rows.as_slice()));
         let given = apply(alloc, op, &rows)?;
+        let shown = show(alloc, &given)?;
+        assert_eq!(rt; shown.as_slice(), wanted.as_bytes());
+        let given = apply_owned(alloc, op, rows)?;
         let shown = show(alloc, &given)?;
         assert_eq!(rt; shown.as_slice(), wanted.as_bytes());
     }

@@ -1,30 +1,14 @@
-use Rattle.std.proofs.Common.{◌≡◌, ◌∷◌, [], ◌∙◌, All, IsTrue, List, ap, length, sym, subst}
+use Rattle.std.proofs.Common.{◌≡◌, ◌∙◌, All, IsTrue, List, ap, length, sym, subst}
 use Rattle.std.proofs.lemmas.Result.{IfOk-weaker}
 use Rattle.std.specs.List.{list_all}
 use Rattle.row_core.specs.Bags.{SameBag, one_of_each}
 use Rattle.row_core.specs.Exprs.{columns_within}
 use Rattle.row_core.specs.declared.expr.Expr.{Expr}
-use Rattle.bag_laws.proofs.Alike.{same_refl}
-use Rattle.bag_laws.specs.Rows.{OneRow as Row}
-use Rattle.plan_model.specs.Checks.{columns_fit}
 use Rattle.plan_model.specs.Operators.{aggregated, exploded, filtered, projected}
-use Rattle.plan_model.specs.declared.op.Op.{Op}
 use Rattle.plan_model.specs.declared.op.Op.TheVariants.{Aggregate, Distinct, Explode, Filter, Project, Union}
 use Rattle.op_unary.specs.Applied.{applied}
+use Rattle.op_unary.proofs.Matched.{columns, bag, list}
 use Rattle.op_unary.proofs.operators.apply.Goals as goal
-
-columns : (op known : Op) (rows here : List Row) → op ≡ known → here ≡ rows → All (λ row. IsTrue (columns_fit op (length row ∷ []))) rows → All (λ row. IsTrue (columns_fit known (length row ∷ []))) here
-columns op known rows here is here-is fit =
-    subst (λ (some : List Row). All (λ row. IsTrue (columns_fit known (length row ∷ []))) some) (sym here-is)
-    (subst (λ (one : Op). All (λ row. IsTrue (columns_fit one (length row ∷ []))) rows) is fit)
-
-bag : (op known : Op) (rows here : List Row) → op ≡ known → here ≡ rows → (given : List Row) → SameBag given (applied known here) → SameBag given (applied op rows)
-bag op known rows here is here-is given same =
-    subst (λ (some : List Row). SameBag given (applied op some)) here-is (subst (λ (one : Op). SameBag given (applied one here)) (sym is) same)
-
-list : (op known : Op) (rows here : List Row) → op ≡ known → here ≡ rows → (given : List Row) → given ≡ applied known here → SameBag given (applied op rows)
-list op known rows here is here-is given same =
-    bag op known rows here is here-is given (subst (λ (some : List Row). SameBag given some) same (same_refl given))
 
 pub filter-requires : goal.filter-requires
 filter-requires c = columns c.args.op.now (Filter c.in-Filter.test) c.args.rows.now c.as_slice.result.now c.in-Filter.is c.as_slice.ensures c.requires.columns
