@@ -1,7 +1,11 @@
 pub mod Alikes
+pub mod ByFile
 pub mod Defined
+pub mod Gathered
 pub mod Operated
+pub mod Slots
 pub mod Sound
 pub mod Steps
+pub mod Taken
 pub mod Texts
 pub mod WidthsKept

@@ -14,7 +14,7 @@ use Rattle.plan_model.specs.Widths.{width_of, widths_of, widths_from, input_widt
 use Rattle.plan_model.specs.declared.node.Node.{Node}
 use Rattle.plan_model.specs.declared.op.Op.{Op}
 use Rattle.plan_model.specs.declared.op.Op.TheVariants.{Source, Filter, Project, Explode, Union, Aggregate, Distinct, Join, Sink}
-use Rattle.plan_eval.specs.Evaluated.{Alike, HasItsWidth, IsGood, as_bag, inputs_in}
+use Rattle.plan_eval.specs.Evaluated.{Alike, HasItsWidth, IsGood, Keeps, as_bag, inputs_in}
 use Rattle.plan_eval.specs.declared.node_rows.NodeRows.{NodeRows}
 use Rattle.plan_eval.proofs.Alikes.{alike_itself, alike_on, by_bags, bag_width, width_at}
 use Rattle.plan_eval.proofs.Sound.{IsSound, gives_within}
@@ -108,22 +108,29 @@ along bags others (input ∷ inputs) alike (suc place) = along bags others input
 
 -- ---- the nodes so far
 
--- the rows that are kept for the nodes so far are the definition's, but for the sinks
-pub record IsEvaluated (files : List ℕ → List (List ℕ)) (nodes : List Node) (done : List NodeRows) : Type 0 where
+-- the rows that are kept for the nodes so far are the definition's, where a node behind them takes them
+pub record IsEvaluated (files : List ℕ → List (List ℕ)) (last : List ℕ) (nodes : List Node) (done : List NodeRows) : Type 0 where
   pub widths : map (λ bag. bag.width) (map as_bag done) ≡ widths_of nodes
   pub narrow : All (λ width. width ≤ 256) (widths_of nodes)
-  pub alike : (place : ℕ) → gives_rows nodes place ≡ true → Alike (bag_at (map as_bag done) place) (bag_at (bags_of files nodes) place)
-  pub fit : (place : ℕ) → gives_rows nodes place ≡ true → HasItsWidth (bag_at (map as_bag done) place)
+  pub alike : (place : ℕ) → gives_rows nodes place ≡ true → length nodes ≤ get_or last place 0 → Alike (bag_at (map as_bag done) place) (bag_at (bags_of files nodes) place)
+  pub fit : (place : ℕ) → gives_rows nodes place ≡ true → length nodes ≤ get_or last place 0 → HasItsWidth (bag_at (map as_bag done) place)
 
-pub none_evaluated : (files : List ℕ → List (List ℕ)) → IsEvaluated files [] []
-none_evaluated files = record {
+pub long_done : (files : List ℕ → List (List ℕ)) (last : List ℕ) (before : List Node) (done : List NodeRows) → IsEvaluated files last before done → length done ≡ length before
+long_done files last before done so_far =
+    let one = length-map (map as_bag done) (λ (bag : Bag). bag.width) in let two = length-map done as_bag in let all = length-widths_from [] before in
+    let same : length (map (λ bag. bag.width) (map as_bag done)) ≡ length (widths_of before) = ap (λ (widths : List ℕ). length widths) so_far.widths in
+    omega (arith, one, two, all, same)
+
+pub none_evaluated : (files : List ℕ → List (List ℕ)) (last : List ℕ) → IsEvaluated files last [] []
+none_evaluated files last = record {
   widths = refl;
   narrow = λ k d lt. omega (arith, lt);
-  alike = λ place gives. cc;
-  fit = λ place gives. cc;
+  alike = λ place gives taken. cc;
+  fit = λ place gives taken. cc;
 }
 
-module _ (files : List ℕ → List (List ℕ)) (before : List Node) (done : List NodeRows) (so_far : IsEvaluated files before done) (node : Node) (sound : IsSound before node) where
+module _ (files : List ℕ → List (List ℕ)) (last : List ℕ) (before : List Node) (done : List NodeRows) (so_far : IsEvaluated files last before done) (node : Node) (sound : IsSound before node)
+    (taken : All (λ input. length before ≤ get_or last input 0) node.inputs) where
   abbrev found : List Bag
   found = map as_bag done
 
@@ -163,11 +170,11 @@ module _ (files : List ℕ → List (List ℕ)) (before : List Node) (done : Lis
     narrow = subst (λ (widths : List ℕ). All (λ width. width ≤ 256) widths) (sym given_widths)
         (All-map (λ width. width ≤ 256) (λ input. get_or (widths_of before) input 0) node.inputs (λ k d lt. narrow_at (widths_of before) so_far.narrow (get_or node.inputs k d)));
     wide = subst (λ (widths : List ℕ). width_of node.op widths ≤ 256) (sym given_widths) (leb-true (width_of node.op (input_widths (widths_of before) node.inputs)) 256 sound.wide);
-    fit = All-map HasItsWidth (bag_at found) node.inputs (λ k d lt. so_far.fit (get_or node.inputs k d) (each_gives k d lt));
+    fit = All-map HasItsWidth (bag_at found) node.inputs (λ k d lt. so_far.fit (get_or node.inputs k d) (each_gives k d lt) (taken k d lt));
   }
 
   inputs_alike : (place : ℕ) → Alike (bag_at given place) (bag_at owed place)
-  inputs_alike = along found defined node.inputs (λ k d lt. so_far.alike (get_or node.inputs k d) (each_gives k d lt))
+  inputs_alike = along found defined node.inputs (λ k d lt. so_far.alike (get_or node.inputs k d) (each_gives k d lt) (taken k d lt))
 
   -- the text with this node's section
   pub text_more : committed_text files (before ++ node ∷ []) ≡ committed_text files before ++ sink_section node.op (bag_at given 0)
@@ -178,7 +185,16 @@ module _ (files : List ℕ → List (List ℕ)) (before : List Node) (done : Lis
       (section_of files node.op owed ∙ section_same node.op (bag_at owed 0) (bag_at given 0) (same_sym (inputs_alike 0).rows))
 
   module _ (made : NodeRows) (width : made.width ≡ width_of node.op (map (λ bag. bag.width) given))
-      (rows : IsTrue (not (is_sink node.op)) → SameBag made.rows (bag_of files node.op given).rows) where
+      (rows : IsTrue (not (is_sink node.op)) → SameBag (as_bag made).rows (bag_of files node.op given).rows)
+      (left : List NodeRows) (kept : Keeps (length before) last done left) where
+    abbrev stays : List Bag
+    stays = map as_bag left
+
+    long_stays : length stays ≡ length before
+    long_stays = let one = length-map stays (λ (bag : Bag). bag.width) in let other = length-map found (λ (bag : Bag). bag.width) in
+        let same : length (map (λ bag. bag.width) stays) ≡ length (map (λ bag. bag.width) found) = ap (λ (widths : List ℕ). length widths) kept.widths in
+        let long = long_found in omega (arith, one, other, same, long)
+
     made_width : made.width ≡ (bag_of files node.op given).width
     made_width = width ∙ sym (bag_width files node.op given)
 
@@ -189,17 +205,17 @@ module _ (files : List ℕ → List (List ℕ)) (before : List Node) (done : Lis
     made_fits : not (is_sink node.op) ≡ true → HasItsWidth (as_bag made)
     made_fits gives =
         let bag = bag_of files node.op given in
-        subst (λ (width : ℕ). All (λ row. length row ≡ width) made.rows) (sym made_width)
-        (All-permutation (λ row. length row ≡ bag.width) bag.rows made.rows (permutation_of_same bag.rows made.rows (same_sym (rows gives))) (bag_wide files node.op given good))
+        subst (λ (width : ℕ). All (λ row. length row ≡ width) (as_bag made).rows) (sym made_width)
+        (All-permutation (λ row. length row ≡ bag.width) bag.rows (as_bag made).rows (permutation_of_same bag.rows (as_bag made).rows (same_sym (rows gives))) (bag_wide files node.op given good))
 
-    found_more : map as_bag (done ++ made ∷ []) ≡ found ++ as_bag made ∷ []
-    found_more = map-append as_bag done (made ∷ [])
+    stays_more : map as_bag (left ++ made ∷ []) ≡ stays ++ as_bag made ∷ []
+    stays_more = map-append as_bag left (made ∷ [])
 
-    more_widths : map (λ bag. bag.width) (map as_bag (done ++ made ∷ [])) ≡ widths_of (before ++ node ∷ [])
+    more_widths : map (λ bag. bag.width) (map as_bag (left ++ made ∷ [])) ≡ widths_of (before ++ node ∷ [])
     more_widths =
-        ap (λ (bags : List Bag). map (λ bag. bag.width) bags) found_more
-        ∙ map-append (λ (bag : Bag). bag.width) found (as_bag made ∷ [])
-        ∙ (λ i. so_far.widths i ++ (width ∙ ap (width_of node.op) given_widths) i ∷ [])
+        ap (λ (bags : List Bag). map (λ bag. bag.width) bags) stays_more
+        ∙ map-append (λ (bag : Bag). bag.width) stays (as_bag made ∷ [])
+        ∙ (λ i. (kept.widths ∙ so_far.widths) i ++ (width ∙ ap (width_of node.op) given_widths) i ∷ [])
         ∙ sym (widths_of-more before node)
 
     more_narrow : All (λ width. width ≤ 256) (widths_of (before ++ node ∷ []))
@@ -208,35 +224,44 @@ module _ (files : List ℕ → List (List ℕ)) (before : List Node) (done : Lis
         subst (λ (widths : List ℕ). All (λ width. width ≤ 256) widths) (sym (widths_of-more before node))
         (All-append (λ width. width ≤ 256) (widths_of before) (last ∷ []) so_far.narrow (one_narrow last (leb-true last 256 sound.wide)))
 
-    more_alike : (place : ℕ) → gives_rows (before ++ node ∷ []) place ≡ true
-        → Alike (bag_at (found ++ as_bag made ∷ []) place) (bag_at (defined ++ bag_of files node.op owed ∷ []) place)
-    more_alike place gives = elim (gives-more before node place gives) [
+    -- a node that is still to be taken keeps its rows
+    stays_at : (place : ℕ) → place < length before → length (before ++ node ∷ []) ≤ get_or last place 0 → bag_at (stays ++ as_bag made ∷ []) place ≡ bag_at found place
+    stays_at place lt later =
+        let one = old_at stays (as_bag made) place (let long = long_stays in omega (arith, lt, long)) in
+        one ∙ kept.others place (let more = length-append before (node ∷ []) in omega (arith, later, more))
+
+    before_too : (place : ℕ) → length (before ++ node ∷ []) ≤ get_or last place 0 → length before ≤ get_or last place 0
+    before_too place later = let more = length-append before (node ∷ []) in omega (arith, later, more)
+
+    more_alike : (place : ℕ) → gives_rows (before ++ node ∷ []) place ≡ true → length (before ++ node ∷ []) ≤ get_or last place 0
+        → Alike (bag_at (stays ++ as_bag made ∷ []) place) (bag_at (defined ++ bag_of files node.op owed ∷ []) place)
+    more_alike place gives later = elim (gives-more before node place gives) [
       | inl old ↦
           let lt : place < length before = gives_within before place old in
-          let one = old_at found (as_bag made) place (let long = long_found in omega (arith, lt, long)) in
+          let one = stays_at place lt later in
           let two = old_at defined (bag_of files node.op owed) place (let long = long_defined in omega (arith, lt, long)) in
           subst (λ (bag : Bag). Alike bag (bag_at (defined ++ bag_of files node.op owed ∷ []) place)) (sym one)
-          (subst (λ (bag : Bag). Alike (bag_at found place) bag) (sym two) (so_far.alike place old))
+          (subst (λ (bag : Bag). Alike (bag_at found place) bag) (sym two) (so_far.alike place old (before_too place later)))
       | inr new ↦
-          let one = new_at found (as_bag made) place (new.0 ∙ sym long_found) in
+          let one = new_at stays (as_bag made) place (new.0 ∙ sym long_stays) in
           let two = new_at defined (bag_of files node.op owed) place (new.0 ∙ sym long_defined) in
           subst (λ (bag : Bag). Alike bag (bag_at (defined ++ bag_of files node.op owed ∷ []) place)) (sym one)
           (subst (λ (bag : Bag). Alike (as_bag made) bag) (sym two) (made_alike new.1))
     ]
 
-    more_fit : (place : ℕ) → gives_rows (before ++ node ∷ []) place ≡ true → HasItsWidth (bag_at (found ++ as_bag made ∷ []) place)
-    more_fit place gives = elim (gives-more before node place gives) [
+    more_fit : (place : ℕ) → gives_rows (before ++ node ∷ []) place ≡ true → length (before ++ node ∷ []) ≤ get_or last place 0 → HasItsWidth (bag_at (stays ++ as_bag made ∷ []) place)
+    more_fit place gives later = elim (gives-more before node place gives) [
       | inl old ↦
           let lt : place < length before = gives_within before place old in
-          subst HasItsWidth (sym (old_at found (as_bag made) place (let long = long_found in omega (arith, lt, long)))) (so_far.fit place old)
-      | inr new ↦ subst HasItsWidth (sym (new_at found (as_bag made) place (new.0 ∙ sym long_found))) (made_fits new.1)
+          subst HasItsWidth (sym (stays_at place lt later)) (so_far.fit place old (before_too place later))
+      | inr new ↦ subst HasItsWidth (sym (new_at stays (as_bag made) place (new.0 ∙ sym long_stays))) (made_fits new.1)
     ]
 
-    pub one_more : IsEvaluated files (before ++ node ∷ []) (done ++ made ∷ [])
+    pub one_more : IsEvaluated files last (before ++ node ∷ []) (left ++ made ∷ [])
     one_more = record {
       widths = more_widths;
       narrow = more_narrow;
-      alike = λ place gives. subst (λ (bags : List Bag). Alike (bag_at (map as_bag (done ++ made ∷ [])) place) (bag_at bags place)) (sym (bags_of-more files before node))
-          (subst (λ (bags : List Bag). Alike (bag_at bags place) (bag_at (defined ++ bag_of files node.op owed ∷ []) place)) (sym found_more) (more_alike place gives));
-      fit = λ place gives. subst (λ (bags : List Bag). HasItsWidth (bag_at bags place)) (sym found_more) (more_fit place gives);
+      alike = λ place gives later. subst (λ (bags : List Bag). Alike (bag_at (map as_bag (left ++ made ∷ [])) place) (bag_at bags place)) (sym (bags_of-more files before node))
+          (subst (λ (bags : List Bag). Alike (bag_at bags place) (bag_at (defined ++ bag_of files node.op owed ∷ []) place)) (sym stays_more) (more_alike place gives later));
+      fit = λ place gives later. subst (λ (bags : List Bag). HasItsWidth (bag_at bags place)) (sym stays_more) (more_fit place gives later);
     }

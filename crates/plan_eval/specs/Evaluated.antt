@@ -1,16 +1,43 @@
 -- The rows of nodes as they are found, beside the bags of the definition.
-use Rattle.std.specs.Prelude.{◌≡◌, ℕ, ◌≤◌, Bool, false, List, length, map, slice_get, All, IsTrue}
+use Rattle.std.specs.Prelude.{◌≡◌, ◌≢◌, ℕ, ◌≤◌, ◌<◌, Bool, true, false, List, length, map, get_or, slice_get, All, IsTrue, Option, Some, None}
+use Rattle.std.specs.List.{flat_map}
 use Rattle.std.specs.Option.{option_map_or}
 use Rattle.row_core.specs.Bags.{SameBag}
+use Rattle.row_core.specs.declared.value.Value.{Value}
 use Rattle.plan_model.specs.Checks.{is_sink, takes, columns_fit, widths_agree}
 use Rattle.plan_model.specs.Plans.{Bag, bag_at}
+use Rattle.plan_model.specs.Tables.{table_rows}
 use Rattle.plan_model.specs.Widths.{width_of}
 use Rattle.plan_model.specs.declared.node.Node.{Node}
 use Rattle.plan_model.specs.declared.op.Op.{Op}
+use Rattle.plan_model.specs.declared.op.Op.TheVariants.{Source, Filter, Project, Explode, Union, Aggregate, Distinct, Join, Sink}
 use Rattle.plan_eval.specs.declared.node_rows.NodeRows.{NodeRows}
+use Rattle.plan_eval.specs.declared.unread.Unread.{Unread}
+
+-- rows that are yet to be read from files
+abbrev pub rows_unread : Unread → List (List Value)
+rows_unread unread = flat_map (table_rows unread.kinds) unread.files.now
+
+abbrev pub rows_or : Option Unread → List (List Value) → List (List Value)
+rows_or None rows = rows
+rows_or (Some unread) rows = rows_unread unread
 
 abbrev pub as_bag : NodeRows → Bag
-as_bag node = record { width = node.width; rows = node.rows }
+as_bag node = record { width = node.width; rows = rows_or node.unread node.rows }
+
+-- nothing of the node at this place is unread
+abbrev pub IsRead : List NodeRows → ℕ → Type 0
+IsRead nodes place = get_or (map (λ node. node.unread) nodes) place None ≡ None
+
+-- all widths stay, and the rows of all nodes but this one
+pub record LosesOnly (place : ℕ) (nodes left : List NodeRows) : Type 0 where
+  pub widths : map (λ bag. bag.width) (map as_bag left) ≡ map (λ bag. bag.width) (map as_bag nodes)
+  pub others : (other : ℕ) → other ≢ place → bag_at (map as_bag left) other ≡ bag_at (map as_bag nodes) other
+
+-- all widths stay, and the rows of each node that one behind this place takes
+pub record Keeps (place : ℕ) (last : List ℕ) (nodes left : List NodeRows) : Type 0 where
+  pub widths : map (λ bag. bag.width) (map as_bag left) ≡ map (λ bag. bag.width) (map as_bag nodes)
+  pub others : (other : ℕ) → place < get_or last other 0 → bag_at (map as_bag left) other ≡ bag_at (map as_bag nodes) other
 
 -- the bags of these inputs
 abbrev pub inputs_in : List NodeRows → List ℕ → List Bag
@@ -37,3 +64,15 @@ pub record IsGood (op : Op) (inputs : List Bag) : Type 0 where
 -- a place of a sink
 abbrev pub sink_at : List Node → ℕ → Bool
 sink_at nodes place = option_map_or (λ node. is_sink node.op) (slice_get nodes place) false
+
+-- an operator on one input
+abbrev pub takes_one : Op → Bool
+takes_one (Source table columns) = false
+takes_one (Filter test) = true
+takes_one (Project exprs) = true
+takes_one (Explode column separator) = true
+takes_one Union = false
+takes_one (Aggregate keys aggs) = true
+takes_one Distinct = true
+takes_one (Join kind keys) = false
+takes_one (Sink name) = false

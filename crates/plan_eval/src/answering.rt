@@ -4,23 +4,25 @@ ghost use Rattle.plan_eval.specs.Tables.{files_of};
 
 use crate::TableRows;
 use crate::evaluation::evaluate;
-use crate::sections::write_section;
+use crate::takers::last_takers;
 use plan_model::GoodPlan;
 use row_core::{Bytes, NoMemory};
 use std::alloc::Global;
 
 /// The text that the plan commits over these tables: for each sink, in the order of the nodes, a line
 /// with its name and its rows' lines in ascending order. Each node's rows are found once, however
-/// many nodes take them. docs/FORMATS.md states the text.
+/// many nodes take them, and are let go after the last of these. docs/FORMATS.md states the text.
 pub fn answer(alloc: Global, plan: &GoodPlan, tables: &TableRows) -> Result<Bytes, NoMemory>
     ensures { IfOk result (λ text. text ≡ committed_text (files_of tables.now) plan.now) }
 {
     let nodes = plan.nodes();
+    let last = last_takers(alloc, nodes)?;
     let mut done = Vec::with_capacity(alloc, nodes.len())?;
     let mut text = Bytes::new(alloc);
     for node in nodes {
-        write_section(alloc, node, done.as_slice(), &mut text)?;
-        let rows = evaluate(alloc, tables, node, done.as_slice())?;
+        let place = done.len();
+        let last = last.as_slice();
+        let rows = evaluate(alloc, tables, node, place, last, &mut done, &mut text)?;
         done.push(rows)?;
     }
     Ok(text)

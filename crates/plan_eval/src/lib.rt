@@ -3,16 +3,21 @@
 #![tactic(auto)]
 
 mod answering;
+mod applying;
+mod done;
 mod evaluation;
 mod files;
+mod gathering;
 mod laws;
 mod node_rows;
 mod reading;
 mod sections;
 mod table_files;
 mod table_rows;
+mod takers;
 #[cfg(test)]
 mod tests;
+mod unread;
 
 pub use answering::answer;
 pub use files::Files;

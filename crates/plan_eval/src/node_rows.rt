@@ -1,8 +1,38 @@
-use row_core::Rows;
+ghost use Rattle.std.specs.Prelude.{◌≡◌, None, OnOk};
+ghost use Rattle.plan_eval.specs.Evaluated.{as_bag};
 
-/// The rows of a node, and how many values each has.
-#[derive(Debug, Drop)]
-pub struct NodeRows {
+use crate::unread::Unread;
+use row_core::{NoMemory, Rows};
+use std::alloc::Global;
+use std::mem;
+
+/// What a node gives: how many values each of its rows has, and its rows. Those of a source may be
+/// unread as yet.
+#[derive(Drop)]
+pub struct NodeRows<'a> {
     pub width: u32,
+    pub unread: Option<Unread<'a>>,
     pub rows: Rows,
+}
+
+impl<'a> NodeRows<'a> {
+    /// Reads the rows, where they are unread.
+    pub fn read(&mut self, alloc: Global) -> Result<(), NoMemory>
+        ensures bag { OnOk result (as_bag self.new ≡ as_bag self.old) }
+        ensures read { OnOk result (self.new.unread ≡ None) }
+    {
+        if let Some(unread) = &self.unread {
+            self.rows = unread.rows(alloc)?;
+            self.unread = None;
+        }
+        Ok(())
+    }
+
+    /// Moves the rows out, and leaves none.
+    pub fn take(&mut self, alloc: Global) -> Rows
+        ensures rows { result ≡ self.old.rows }
+        ensures width { self.new.width ≡ self.old.width }
+    {
+        mem::replace(&mut self.rows, Rows::new(alloc))
+    }
 }

@@ -1,43 +1,53 @@
-ghost use Rattle.std.specs.Prelude.{◌≡◌, ◌++◌, map, IfOk, OnOk};
+ghost use Rattle.std.specs.Prelude.{◌≡◌, ◌∷◌, [], ◌++◌, map, All, IfOk, IsTrue, OnOk, length};
 ghost use Rattle.std.specs.List.{flat_map};
+ghost use Rattle.row_core.specs.Bags.{SameBag};
+ghost use Rattle.op_unary.specs.Applied.{applied, is_row_wise};
+ghost use Rattle.plan_model.specs.Checks.{columns_fit};
 ghost use Rattle.plan_model.specs.Tables.{table_rows};
-ghost use Rattle.plan_eval.specs.Tables.{files_of};
 
-use crate::TableRows;
-use crate::table_rows::files_in;
+use bag_laws::concatenations;
 use csv_tables::read_table;
-use plan_model::{Column, Kind, Kinds, Schema};
+use op_unary::{apply_owned, rows_go_alone};
+use plan_model::{Column, Kind, Kinds, Op};
 use row_core::{Bytes, NoMemory, Row, Rows};
 use std::alloc::Global;
 
-/// The rows of a source: those of its table's files, one file after the other.
-pub fn source_rows(
-    alloc: Global,
-    tables: &TableRows,
-    table: &Bytes,
-    columns: &Schema,
-) -> Result<Rows, NoMemory>
-    ensures { IfOk result (λ rows. rows ≡ flat_map (table_rows (map (λ column. column.kind) columns.now)) (files_of tables.now table.now)) }
-{
-    let kinds = Kinds::from_vec(kinds_of(alloc, columns.as_slice())?);
-    match files_in(tables.as_slice(), table) {
-        Some(files) => read_files(alloc, files.as_slice(), &kinds),
-        None => Ok(Rows::new(alloc)),
-    }
-}
-
-fn kinds_of(alloc: Global, columns: &[Column]) -> Result<Vec<Kind>, NoMemory>
+/// The kinds of these columns.
+pub fn kinds_of(alloc: Global, columns: &[Column]) -> Result<Vec<Kind>, NoMemory>
     ensures { IfOk result (λ kinds. kinds.items ≡ map (λ column. column.kind) columns.now) }
 {
     columns.iter().map(|column| column.kind).collect(alloc)
 }
 
-fn read_files(alloc: Global, files: &[Bytes], kinds: &Kinds) -> Result<Rows, NoMemory>
+/// The rows of a table's files, those of one file after the other.
+pub fn read_files(alloc: Global, files: &[Bytes], kinds: &Kinds) -> Result<Rows, NoMemory>
     ensures { IfOk result (λ rows. rows ≡ flat_map (table_rows kinds.now) files.now) }
 {
     let mut rows = Vec::new(alloc);
     for file in files {
         append(&mut rows, read_table(alloc, file, kinds)?)?;
+    }
+    Ok(Rows::from_vec(rows))
+}
+
+/// What an operator that goes row by row gives on the rows of a table's files: each file's rows are
+/// let go before the next is read.
+pub fn apply_by_file(
+    alloc: Global,
+    op: &Op,
+    files: &[Bytes],
+    kinds: &Kinds,
+) -> Result<Rows, NoMemory>
+    requires row_wise { IsTrue (is_row_wise op.now) }
+    requires columns { All (λ row. IsTrue (columns_fit op.now (length row ∷ []))) (flat_map (table_rows kinds.now) files.now) }
+    ensures { IfOk result (λ rows. SameBag rows (applied op.now (flat_map (table_rows kinds.now) files.now))) }
+{
+    rows_go_alone();
+    concatenations();
+    let mut rows = Vec::new(alloc);
+    for file in files {
+        let read = read_table(alloc, file, kinds)?;
+        append(&mut rows, apply_owned(alloc, op, read)?)?;
     }
     Ok(Rows::from_vec(rows))
 }

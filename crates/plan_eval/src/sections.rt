@@ -1,31 +1,33 @@
-ghost use Rattle.std.specs.Prelude.{◌≡◌, ◌<◌, ◌++◌, ◌∷◌, All, OnOk, IsTrue, codes, length};
-ghost use Rattle.plan_model.specs.Checks.{takes};
-ghost use Rattle.plan_model.specs.Plans.{bag_at, sink_section};
+ghost use Rattle.std.specs.Prelude.{◌≡◌, ◌<◌, ◌++◌, ◌∷◌, OnOk, codes, length, map};
+ghost use Rattle.plan_model.specs.Plans.{bag_at};
 ghost use Rattle.plan_model.specs.Sinks.{sorted_lines};
-ghost use Rattle.plan_eval.specs.Evaluated.{inputs_in};
+ghost use Rattle.plan_eval.specs.Evaluated.{Keeps, as_bag};
 
+use crate::done::{read_node, release, rows_of};
 use crate::node_rows::NodeRows;
 use csv_tables::sink_text;
-use plan_model::{Node, Op};
 use row_core::{Bytes, NoMemory, Rows};
 use std::alloc::Global;
 
-/// Adds the text of a node, if it is a sink.
+/// Adds the text of a sink that takes the rows of this node. They are let go where no later node takes
+/// them.
 pub fn write_section(
     alloc: Global,
-    node: &Node,
-    done: &[NodeRows],
+    name: &Bytes,
+    input: u32,
+    place: usize,
+    last: &[usize],
+    done: &mut Vec<NodeRows<'_>>,
     text: &mut Bytes,
 ) -> Result<(), NoMemory>
-    requires earlier { All (λ input. input < length done.now) node.now.inputs }
-    requires number { IsTrue (takes node.now.op (length node.now.inputs)) }
-    ensures { OnOk result (text.new ≡ text.old ++ sink_section node.now.op (bag_at (inputs_in done.now node.now.inputs) 0)) }
+    requires { input < length done.old.items }
+    ensures text { OnOk result (text.new ≡ text.old ++ (codes "sink " ++ name.now ++ (10 ∷ sorted_lines (bag_at (map as_bag done.old.items) input).rows))) }
+    ensures kept { OnOk result (Keeps place last.now done.old.items done.new.items) }
 {
-    let Op::Sink { name } = &node.op else {
-        return Ok(());
-    };
-    let place = node.inputs.as_slice()[0];
-    write_sink(alloc, name, &done[place as usize].rows, text)
+    read_node(alloc, input, done)?;
+    write_sink(alloc, name, rows_of(done.as_slice(), input), text)?;
+    release(alloc, input, place, last, done);
+    Ok(())
 }
 
 /// Adds a line with the sink's name, and its rows' lines.

@@ -1,37 +1,22 @@
-use Rattle.std.proofs.Common.{◌≡◌, ℕ, ◌+◌, ◌<◌, List, [], ◌∷◌, ◌++◌, length, map, take, All, IsTrue, not, slice_get, slice_index_or, sym, ap, subst, ◌∙◌}
+use Rattle.std.proofs.Common.{◌≡◌, ℕ, ◌+◌, ◌<◌, List, [], ◌∷◌, ◌++◌, length, take, slice_get, slice_index_or, sym, ap, subst, ◌∙◌}
 use Rattle.std.proofs.lemmas.List.{take_more, take_all}
-use Rattle.row_core.specs.Bags.{SameBag}
-use Rattle.plan_model.specs.Checks.{is_sink, node_kinds}
-use Rattle.plan_model.specs.Plans.{bag_at, bag_of, committed_text, sink_section}
-use Rattle.plan_model.specs.Widths.{width_of}
+use Rattle.plan_model.specs.Checks.{node_kinds}
+use Rattle.plan_model.specs.Plans.{bag_at, committed_text, sink_section}
 use Rattle.plan_model.specs.declared.node.Node.{Node}
 use Rattle.plan_model.specs.declared.plan_kind.PlanKind.{PlanKind}
 use Rattle.plan_model.proofs.Told.{told-next}
-use Rattle.plan_eval.specs.Evaluated.{IsGood, inputs_in}
+use Rattle.plan_eval.specs.Evaluated.{Keeps, inputs_in}
 use Rattle.plan_eval.specs.Tables.{files_of}
 use Rattle.plan_eval.specs.declared.node_rows.NodeRows.{NodeRows}
 use Rattle.plan_eval.proofs.Sound.{IsSound, sound_here, none_here, none_told}
-use Rattle.plan_eval.proofs.Steps.{IsEvaluated, earlier, good, text_more, one_more, none_evaluated}
+use Rattle.plan_eval.proofs.Steps.{IsEvaluated, earlier, good, text_more, one_more, none_evaluated, long_done}
+use Rattle.plan_eval.proofs.Taken.{taken_here}
+use Rattle.std.specs.Global.{Vec}
+use Rattle.std.specs.Prelude.{vec_len}
 use Rattle.plan_eval.proofs.answering.answer.Goals as goal
 
 one_taken : (nodes : List Node) (k : ℕ) (node : Node) → k < length nodes → node ≡ slice_index_or nodes k node → take (k + 1) nodes ≡ take k nodes ++ node ∷ []
 one_taken nodes k node lt is = take_more nodes k node lt ∙ ap (λ (n : Node). take k nodes ++ n ∷ []) (sym is)
-
-pub write_section-requires-clause-earlier : goal.write_section-requires-clause-earlier
-write_section-requires-clause-earlier c =
-    let nodes = c.nodes-nodes.result.now in
-    let k = c.loop-node.node-index in
-    let node = c.node-item.result in
-    let sound : IsSound (take k nodes) node = sound_here nodes k node c.loop-node-test.true c.node-item.is c.loop-node.invariant.told in
-    subst (λ (done : List NodeRows). All (λ input. input < length done) node.inputs) (sym c.as_slice.ensures.value)
-    (earlier (files_of c.args.tables.now) (take k nodes) c.loop-node.done.items c.loop-node.invariant.evaluated node sound)
-
-pub write_section-requires-clause-number : goal.write_section-requires-clause-number
-write_section-requires-clause-number c =
-    let nodes = c.nodes-nodes.result.now in
-    let sound : IsSound (take c.loop-node.node-index nodes) c.node-item.result =
-    sound_here nodes c.loop-node.node-index c.node-item.result c.loop-node-test.true c.node-item.is c.loop-node.invariant.told in
-    sound.number
 
 pub evaluate-requires-clause-earlier : goal.evaluate-requires-clause-earlier
 evaluate-requires-clause-earlier c =
@@ -39,8 +24,8 @@ evaluate-requires-clause-earlier c =
     let k = c.loop-node.node-index in
     let node = c.node-item.result in
     let sound : IsSound (take k nodes) node = sound_here nodes k node c.loop-node-test.true c.node-item.is c.loop-node.invariant.told in
-    subst (λ (done : List NodeRows). All (λ input. input < length done) node.inputs) (sym c.as_slice-in-loop-node.ensures.value)
-    (earlier (files_of c.args.tables.now) (take k nodes) c.loop-node.done.items c.loop-node.invariant.evaluated node sound)
+    let taken = taken_here nodes c.in_ok-last.last.items k node c.in_ok-last.ensures c.loop-node-test.true c.node-item.is sound in
+    earlier (files_of c.args.tables.now) c.in_ok-last.last.items (take k nodes) c.loop-node.done.items c.loop-node.invariant.evaluated node sound taken
 
 pub evaluate-requires-clause-good : goal.evaluate-requires-clause-good
 evaluate-requires-clause-good c =
@@ -48,8 +33,8 @@ evaluate-requires-clause-good c =
     let k = c.loop-node.node-index in
     let node = c.node-item.result in
     let sound : IsSound (take k nodes) node = sound_here nodes k node c.loop-node-test.true c.node-item.is c.loop-node.invariant.told in
-    subst (λ (done : List NodeRows). IsGood node.op (inputs_in done node.inputs)) (sym c.as_slice-in-loop-node.ensures.value)
-    (good (files_of c.args.tables.now) (take k nodes) c.loop-node.done.items c.loop-node.invariant.evaluated node sound)
+    let taken = taken_here nodes c.in_ok-last.last.items k node c.in_ok-last.ensures c.loop-node-test.true c.node-item.is sound in
+    good (files_of c.args.tables.now) c.in_ok-last.last.items (take k nodes) c.loop-node.done.items c.loop-node.invariant.evaluated node sound taken
 
 pub loop-node-preserved : goal.loop-node-preserved
 loop-node-preserved c =
@@ -58,32 +43,39 @@ loop-node-preserved c =
     let k = c.loop-node.node-index in
     let before = take k nodes in
     let node = c.node-item.result in
+    let last = c.in_ok-last.last.items in
     let done = c.loop-node.done.items in
+    let left = c.evaluate.new.done.items in
     let lt = c.loop-node-test.true in
     let so_far = c.loop-node.invariant.evaluated in
     let sound : IsSound before node = sound_here nodes k node lt c.node-item.is c.loop-node.invariant.told in
-    let taken : take (k + 1) nodes ≡ before ++ node ∷ [] = one_taken nodes k node lt c.node-item.is in
-    let same = c.as_slice-in-loop-node.ensures.value in
+    let taken = taken_here nodes last k node c.in_ok-last.ensures lt c.node-item.is sound in
+    let more : take (k + 1) nodes ≡ before ++ node ∷ [] = one_taken nodes k node lt c.node-item.is in
     let made = c.in_ok-rows.rows in
-    let width : made.width ≡ width_of node.op (map (λ bag. bag.width) (inputs_in done node.inputs)) =
-    c.in_ok-rows.ensures.width ∙ ap (λ (done : List NodeRows). width_of node.op (map (λ bag. bag.width) (inputs_in done node.inputs))) same in
-    let rows : IsTrue (not (is_sink node.op)) → SameBag made.rows (bag_of files node.op (inputs_in done node.inputs)).rows =
-    subst (λ (done : List NodeRows). IsTrue (not (is_sink node.op)) → SameBag made.rows (bag_of files node.op (inputs_in done node.inputs)).rows) same c.in_ok-rows.ensures.rows in
+    let place : c.len-place.result ≡ length before = c.len-place.ensures ∙ done_long c.loop-node.done ∙ long_done files last before done so_far in
+    let kept : Keeps (length before) last done left =
+    subst (λ (l : List ℕ). Keeps (length before) l done left) c.as_slice-last.ensures.value
+    (subst (λ (n : ℕ). Keeps n c.as_slice-last.result.now done left) place c.in_ok-rows.ensures.kept) in
     record {
       told = told-next node_kinds nodes k node lt c.node-item.is
           (ap (λ (kinds : List PlanKind). slice_get kinds 0) (none_here nodes k node lt c.node-item.is c.loop-node.invariant.told)) ∙ c.loop-node.invariant.told;
-      evaluated = subst (λ (nodes : List Node). IsEvaluated files nodes c.push.new.self.items) (sym taken)
-          (subst (λ (done : List NodeRows). IsEvaluated files (before ++ node ∷ []) done) (sym c.in_ok-push.ensures.items) (one_more files before done so_far node sound made width rows));
-      written = c.in_ok-write_section.ensures
-          ∙ (λ i. c.loop-node.invariant.written i ++ sink_section node.op (bag_at (inputs_in (c.as_slice.ensures.value i) node.inputs) 0))
-          ∙ sym (text_more files before done so_far node sound)
-          ∙ ap (committed_text files) (sym taken);
+      evaluated = subst (λ (nodes : List Node). IsEvaluated files last nodes c.push.new.self.items) (sym more)
+          (subst (λ (done : List NodeRows). IsEvaluated files last (before ++ node ∷ []) done) (sym c.in_ok-push.ensures.items)
+          (one_more files last before done so_far node sound taken made c.in_ok-rows.ensures.width c.in_ok-rows.ensures.rows left kept));
+      written = c.in_ok-rows.ensures.text
+          ∙ (λ i. c.loop-node.invariant.written i ++ sink_section node.op (bag_at (inputs_in done node.inputs) 0))
+          ∙ sym (text_more files last before done so_far node sound taken)
+          ∙ ap (committed_text files) (sym more);
     }
+  where
+    done_long : (v : Vec NodeRows) → vec_len v ≡ length v.items
+    done_long v = v.ok.0
 
 pub loop-node-init : goal.loop-node-init
 loop-node-init c = record {
   told = none_told c.nodes-nodes.result.now c.nodes-nodes.ensures.faultless;
-  evaluated = subst (λ (done : List NodeRows). IsEvaluated (files_of c.args.tables.now) [] done) (sym c.in_ok-done.ensures.items) (none_evaluated (files_of c.args.tables.now));
+  evaluated = subst (λ (done : List NodeRows). IsEvaluated (files_of c.args.tables.now) c.in_ok-last.last.items [] done) (sym c.in_ok-done.ensures.items)
+      (none_evaluated (files_of c.args.tables.now) c.in_ok-last.last.items);
   written = c.new-text.ensures;
 }
 

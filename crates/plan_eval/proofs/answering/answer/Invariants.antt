@@ -9,6 +9,6 @@ use Rattle.plan_eval.proofs.answering.answer.Given as goal
 abbrev pub invariant-loop-node : goal.invariant-loop-node
 invariant-loop-node l = record {
   told : from node_kinds l.nodes l.node-index ≡ None;
-  evaluated : IsEvaluated (files_of l.tables) (take l.node-index l.nodes) l.done.items;
+  evaluated : IsEvaluated (files_of l.tables) l.last.items (take l.node-index l.nodes) l.done.items;
   written : l.text ≡ committed_text (files_of l.tables) (take l.node-index l.nodes);
 }

@@ -1,0 +1,84 @@
+ghost use Rattle.std.specs.Prelude.{◌≡◌, ◌<◌, ◌∷◌, [], IfOk, OnOk, IsTrue, length, map};
+ghost use Rattle.row_core.specs.Bags.{SameBag};
+ghost use Rattle.op_unary.specs.Applied.{applied, is_row_wise};
+ghost use Rattle.plan_model.specs.Plans.{bag_at};
+ghost use Rattle.plan_eval.specs.Evaluated.{IsGood, Keeps, LosesOnly, as_bag, takes_one};
+
+use crate::done::{read_node, rows_of, take_node};
+use crate::node_rows::NodeRows;
+use crate::takers::takes_last;
+use op_unary::{apply, apply_owned};
+use plan_model::Op;
+use row_core::{NoMemory, Rows};
+use std::alloc::Global;
+
+/// What an operator on one input gives on the rows of that input, which are moved where no later node
+/// takes them.
+pub fn applied_to(
+    alloc: Global,
+    op: &Op,
+    input: u32,
+    place: usize,
+    last: &[usize],
+    done: &mut Vec<NodeRows<'_>>,
+) -> Result<Rows, NoMemory>
+    requires within { input < length done.old.items }
+    requires one { IsTrue (takes_one op.now) }
+    requires good { IsGood op.now (bag_at (map as_bag done.old.items) input ∷ []) }
+    ensures rows { IfOk result (λ rows. SameBag rows (applied op.now (bag_at (map as_bag done.old.items) input).rows)) }
+    ensures kept { OnOk result (Keeps place last.now done.old.items done.new.items) }
+{
+    if takes_last(place, last, input) {
+        apply_taken(alloc, op, input, done)
+    } else {
+        apply_kept(alloc, op, input, done)
+    }
+}
+
+fn apply_kept(
+    alloc: Global,
+    op: &Op,
+    input: u32,
+    done: &mut Vec<NodeRows<'_>>,
+) -> Result<Rows, NoMemory>
+    requires within { input < length done.old.items }
+    requires one { IsTrue (takes_one op.now) }
+    requires good { IsGood op.now (bag_at (map as_bag done.old.items) input ∷ []) }
+    ensures rows { IfOk result (λ rows. SameBag rows (applied op.now (bag_at (map as_bag done.old.items) input).rows)) }
+    ensures kept { OnOk result (map as_bag done.new.items ≡ map as_bag done.old.items) }
+{
+    read_node(alloc, input, done)?;
+    apply(alloc, op, rows_of(done.as_slice(), input))
+}
+
+// The node's rows go. Where they are unread, an operator that goes row by row takes them file by file.
+fn apply_taken(
+    alloc: Global,
+    op: &Op,
+    input: u32,
+    done: &mut Vec<NodeRows<'_>>,
+) -> Result<Rows, NoMemory>
+    requires within { input < length done.old.items }
+    requires one { IsTrue (takes_one op.now) }
+    requires good { IsGood op.now (bag_at (map as_bag done.old.items) input ∷ []) }
+    ensures rows { IfOk result (λ rows. SameBag rows (applied op.now (bag_at (map as_bag done.old.items) input).rows)) }
+    ensures kept { OnOk result (LosesOnly input done.old.items done.new.items) }
+{
+    if goes_row_by_row(op)
+        && let Some(unread) = &done[input as usize].unread
+    {
+        return unread.applied(alloc, op);
+    }
+    read_node(alloc, input, done)?;
+    let rows = take_node(alloc, input, done);
+    apply_owned(alloc, op, rows)
+}
+
+fn goes_row_by_row(op: &Op) -> bool
+    ensures { result ≡ is_row_wise op.now }
+{
+    matches!(
+        op,
+        Op::Filter { .. } | Op::Project { .. } | Op::Explode { .. } | Op::Union
+    )
+}
