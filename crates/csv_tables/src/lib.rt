@@ -10,5 +10,5 @@ mod table;
 #[cfg(test)]
 mod tests;
 
-pub use sink::sink_text;
+pub use sink::{sink_text, sink_text_owned};
 pub use table::read_table;

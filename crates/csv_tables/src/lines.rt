@@ -4,6 +4,7 @@ ghost use Rattle.row_core.specs.Bags.{ascending};
 ghost use Rattle.plan_model.specs.Sinks.{line_less};
 ghost use Rattle.csv_tables.specs.Lines.{cut, total};
 
+use bag_laws::sorted_texts_ascend;
 use row_core::{Bytes, NoMemory};
 use std::alloc::Global;
 use std::marker::Model;
@@ -65,6 +66,7 @@ fn slices(alloc: Global, text: &[u8], lengths: Vec<usize>) -> Result<Vec<&[u8]>,
 fn sort(lines: &mut Vec<&[u8]>)
     ensures { map (λ line. line.now) lines.new.items ≡ ascending line_less (map (λ line. line.now) lines.old.items) }
 {
+    sorted_texts_ascend();
     lines.sort_unstable_by(|a, b| a.cmp(b));
 }
 

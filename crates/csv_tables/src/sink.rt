@@ -15,6 +15,15 @@ pub fn sink_text(alloc: Global, rows: &Rows) -> Result<Bytes, NoMemory>
     write_lines(alloc, rows.as_slice())?.into_sorted_text(alloc)
 }
 
+/// What `sink_text` gives, of rows that are the call's own: they are let go before the lines are sorted.
+pub fn sink_text_owned(alloc: Global, rows: Rows) -> Result<Bytes, NoMemory>
+    ensures { IfOk result (λ text. text ≡ sorted_lines rows) }
+{
+    let lines = write_lines(alloc, rows.as_slice())?;
+    drop(rows);
+    lines.into_sorted_text(alloc)
+}
+
 // The rows' lines. A flush after each row shows where its line ends.
 fn write_lines(alloc: Global, rows: &[Row]) -> Result<Lines, NoMemory>
     ensures { IfOk result (λ lines. lines ≡ map line_of rows.now) }

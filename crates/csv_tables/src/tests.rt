@@ -1,4 +1,4 @@
-use crate::{read_table, sink_text};
+use crate::{read_table, sink_text, sink_text_owned};
 use plan_model::{Kind, Kinds};
 use row_core::{Bytes, NoMemory, Row, Rows, Value};
 use std::alloc::Global;
@@ -87,13 +87,13 @@ fn reads_tables(rt: HostRuntime) -> Result<(), Fail> {
     Ok(())
 }
 
-// The rows of both tables in one sink.
-fn sunk(alloc: Global, first: Rows, second: Rows) -> Result<Bytes, NoMemory> {
+// The rows of both tables.
+fn both(first: Rows, second: Rows) -> Result<Rows, NoMemory> {
     let mut rows = first;
     for row in second.into_vec() {
         rows.push(row)?;
     }
-    sink_text(alloc, &rows)
+    Ok(rows)
 }
 
 // The kinds and the texts of two tables, and the text of a sink of their rows.
@@ -122,7 +122,10 @@ fn writes_sinks(rt: HostRuntime) -> Result<(), Fail> {
     for (letters, text, other_letters, other_text, want) in SINKS {
         let first = read(rt.alloc(), letters, text)?;
         let second = read(rt.alloc(), other_letters, other_text)?;
-        let written = sunk(rt.alloc(), first, second)?;
+        let rows = both(first, second)?;
+        let written = sink_text(rt.alloc(), &rows)?;
+        assert_eq!(rt; written.as_slice(), want.as_bytes(), "at {text}");
+        let written = sink_text_owned(rt.alloc(), rows)?;
         assert_eq!(rt; written.as_slice(), want.as_bytes(), "at {text}");
     }
     Ok(())
