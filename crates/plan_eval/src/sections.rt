@@ -1,12 +1,13 @@
-ghost use Rattle.std.specs.Prelude.{◌≡◌, ◌<◌, ◌++◌, ◌∷◌, OnOk, codes, length, map};
+ghost use Rattle.std.specs.Prelude.{◌≡◌, ◌<◌, ◌++◌, ◌∷◌, [], IfOk, OnOk, codes, length, map};
 ghost use Rattle.plan_model.specs.Plans.{bag_at};
 ghost use Rattle.plan_model.specs.Sinks.{sorted_lines};
-ghost use Rattle.plan_eval.specs.Evaluated.{Keeps, as_bag};
+ghost use Rattle.plan_eval.specs.Evaluated.{IsRead, Keeps, as_bag};
 
-use crate::done::{read_node, release, rows_of};
+use crate::done::{read_node, rows_of, take_node};
 use crate::node_rows::NodeRows;
-use csv_tables::sink_text;
-use row_core::{Bytes, NoMemory, Rows};
+use crate::takers::takes_last;
+use csv_tables::{sink_text, sink_text_owned};
+use row_core::{Bytes, NoMemory};
 use std::alloc::Global;
 
 /// Adds the text of a sink that takes the rows of this node. They are let go where no later node takes
@@ -25,17 +26,36 @@ pub fn write_section(
     ensures kept { OnOk result (Keeps place last.now done.old.items done.new.items) }
 {
     read_node(alloc, input, done)?;
-    write_sink(alloc, name, rows_of(done.as_slice(), input), text)?;
-    release(alloc, input, place, last, done);
-    Ok(())
+    write_name(name, text)?;
+    let lines = lines_of(alloc, input, place, last, done)?;
+    text.extend(lines.as_slice())
 }
 
-/// Adds a line with the sink's name, and its rows' lines.
-fn write_sink(alloc: Global, name: &Bytes, rows: &Rows, text: &mut Bytes) -> Result<(), NoMemory>
-    ensures { OnOk result (text.new ≡ text.old ++ (codes "sink " ++ name.now ++ (10 ∷ sorted_lines rows.now))) }
+// Adds a line with the sink's name.
+fn write_name(name: &Bytes, text: &mut Bytes) -> Result<(), NoMemory>
+    ensures { OnOk result (text.new ≡ text.old ++ (codes "sink " ++ name.now ++ 10 ∷ [])) }
 {
     text.extend(b"sink ")?;
     text.extend(name.as_slice())?;
-    text.push(b'\n')?;
-    text.extend(sink_text(alloc, rows)?.as_slice())
+    text.push(b'\n')
+}
+
+// The lines of a node whose rows are read.
+fn lines_of(
+    alloc: Global,
+    input: u32,
+    place: usize,
+    last: &[usize],
+    done: &mut Vec<NodeRows<'_>>,
+) -> Result<Bytes, NoMemory>
+    requires within { input < length done.old.items }
+    requires read { IsRead done.old.items input }
+    ensures lines { IfOk result (λ lines. lines ≡ sorted_lines (bag_at (map as_bag done.old.items) input).rows) }
+    ensures kept { OnOk result (Keeps place last.now done.old.items done.new.items) }
+{
+    if takes_last(place, last, input) {
+        sink_text_owned(alloc, take_node(alloc, input, done))
+    } else {
+        sink_text(alloc, rows_of(done.as_slice(), input))
+    }
 }
