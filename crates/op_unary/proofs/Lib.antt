@@ -6,3 +6,4 @@ pub mod Sums
 pub mod Owed
 pub mod Matched
 pub mod Rests
+pub mod Repeats
