@@ -7,3 +7,4 @@ pub mod Owed
 pub mod Matched
 pub mod Rests
 pub mod Repeats
+pub mod Pointed

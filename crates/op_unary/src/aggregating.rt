@@ -4,8 +4,8 @@ ghost use Rattle.row_core.specs.Bags.{SameBag};
 ghost use Rattle.row_core.specs.Values.{row_cmp};
 ghost use Rattle.plan_model.specs.Operators.{agg_value, aggregated, key_of};
 
-use crate::cells::{copied, first_cell};
-use crate::keys::{by_key, run_length};
+use crate::cells::{borrowed, copied, first_cell};
+use crate::keys::{by_key, owned_run_length, run_length, sort_by_keys};
 use crate::telling::tell;
 use plan_model::Agg;
 use row_core::{NoMemory, Row, Rows};
@@ -37,6 +37,43 @@ fn aggregate_runs(
         let row = group_row(alloc, keys, aggs, group)?;
         made.push(row)?;
         start += group.len();
+    }
+    Ok(made)
+}
+
+/// What `aggregate` gives, of rows that are the call's own: they are sorted where they stand.
+pub fn aggregate_owned(
+    alloc: Global,
+    keys: &[u32],
+    aggs: &[Agg],
+    rows: Rows,
+) -> Result<Rows, NoMemory>
+    ensures { IfOk result (λ made. SameBag made (aggregated keys.now aggs.now rows)) }
+{
+    let mut sorted = rows.into_vec();
+    sort_by_keys(keys, &mut sorted);
+    aggregate_sorted(alloc, keys, aggs, sorted.as_slice())
+}
+
+// The same of rows in the order of their keys.
+fn aggregate_sorted(
+    alloc: Global,
+    keys: &[u32],
+    aggs: &[Agg],
+    rows: &[Row],
+) -> Result<Rows, NoMemory>
+    requires { IsSorted row_cmp (map (key_of keys.now) rows.now) }
+    ensures { IfOk result (λ made. SameBag made (aggregated keys.now aggs.now rows.now)) }
+{
+    let mut made = Rows::new(alloc);
+    let mut start = 0;
+    while start < rows.len() {
+        let rest = &rows[start..];
+        let size = owned_run_length(keys, rest);
+        let group = borrowed(alloc, &rest[..size])?;
+        let row = group_row(alloc, keys, aggs, group.as_slice())?;
+        made.push(row)?;
+        start += size;
     }
     Ok(made)
 }

@@ -49,3 +49,29 @@ fn count_run(keys: &[u32], first: &Row, rows: &[&Row]) -> usize
         .take_while(|row| cmp_keys(keys, first, row).is_eq())
         .count()
 }
+
+/// Sorts the rows by their keys.
+pub fn sort_by_keys(keys: &[u32], rows: &mut Vec<Row>)
+    ensures rows { IsPermutation rows.old.items rows.new.items }
+    ensures order { IsSorted row_cmp (map (key_of keys.now) rows.new.items) }
+{
+    rows.sort_unstable_by(|a, b| cmp_keys(keys, a, b));
+}
+
+/// How many rows at the front have the key of the first.
+pub fn owned_run_length(keys: &[u32], rows: &[Row]) -> usize
+    ensures { result ≡ prefix_len (λ row. same_row (key_of keys.now (get_or rows.now 0 [])) (key_of keys.now row)) rows.now }
+{
+    match rows.first() {
+        Some(first) => count_alike(keys, first, rows),
+        None => 0,
+    }
+}
+
+fn count_alike(keys: &[u32], first: &Row, rows: &[Row]) -> usize
+    ensures { result ≡ prefix_len (λ row. same_row (key_of keys.now first.now) (key_of keys.now row)) rows.now }
+{
+    rows.iter()
+        .take_while(|row| cmp_keys(keys, first, row).is_eq())
+        .count()
+}

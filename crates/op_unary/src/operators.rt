@@ -3,7 +3,7 @@ ghost use Rattle.row_core.specs.Bags.{SameBag};
 ghost use Rattle.plan_model.specs.Checks.{columns_fit};
 ghost use Rattle.op_unary.specs.Applied.{applied, is_unary};
 
-use crate::aggregating::aggregate;
+use crate::aggregating::{aggregate, aggregate_owned};
 use crate::cells::copies;
 use crate::each_once::{distinct, distinct_owned};
 use crate::exploding::{explode, explode_owned};
@@ -36,8 +36,8 @@ pub fn apply(alloc: Global, op: &Op, rows: &Rows) -> Result<Rows, NoMemory>
     }
 }
 
-/// What `apply` gives, of rows that are the call's own: a row that stays as it is is moved, and each
-/// other is let go as soon as it is used.
+/// What `apply` gives, of rows that are the call's own: a row that stays is moved, and the others are
+/// let go. No row is copied.
 pub fn apply_owned(alloc: Global, op: &Op, rows: Rows) -> Result<Rows, NoMemory>
     requires unary { IsTrue (is_unary op.now) }
     requires columns { All (λ row. IsTrue (columns_fit op.now (length row ∷ []))) rows }
@@ -49,7 +49,7 @@ pub fn apply_owned(alloc: Global, op: &Op, rows: Rows) -> Result<Rows, NoMemory>
         Op::Explode { column, separator } => explode_owned(alloc, *column, *separator, rows),
         Op::Union => Ok(rows),
         Op::Aggregate { keys, aggs } => {
-            aggregate(alloc, keys.as_slice(), aggs.as_slice(), rows.as_slice())
+            aggregate_owned(alloc, keys.as_slice(), aggs.as_slice(), rows)
         }
         Op::Distinct => Ok(distinct_owned(rows)),
         Op::Source { .. } | Op::Join { .. } | Op::Sink { .. } => unreachable!(),

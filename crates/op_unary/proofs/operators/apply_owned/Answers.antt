@@ -46,6 +46,5 @@ pub returns-in-Aggregate : goal.returns-in-Aggregate
 returns-in-Aggregate c =
     let keys = c.as_slice-in-Aggregate.result.now in
     let aggs = c.as_slice-in-Aggregate-2.result.now in
-    let rows = c.as_slice-in-Aggregate-3.result.now in
-    IfOk-weaker c.aggregate.result (λ given. SameBag given (aggregated keys aggs rows)) (λ given. SameBag given (applied c.args.op.now c.args.rows))
-    (bag c.args.op.now (Aggregate keys aggs) c.args.rows rows (c.in-Aggregate.is ∙ (λ i. Aggregate (sym c.as_slice-in-Aggregate.ensures i) (sym c.as_slice-in-Aggregate-2.ensures i))) c.as_slice-in-Aggregate-3.ensures) c.aggregate.ensures
+    IfOk-weaker c.aggregate_owned.result (λ given. SameBag given (aggregated keys aggs c.args.rows)) (λ given. SameBag given (applied c.args.op.now c.args.rows))
+    (bag c.args.op.now (Aggregate keys aggs) c.args.rows c.args.rows (c.in-Aggregate.is ∙ (λ i. Aggregate (sym c.as_slice-in-Aggregate.ensures i) (sym c.as_slice-in-Aggregate-2.ensures i))) refl) c.aggregate_owned.ensures
