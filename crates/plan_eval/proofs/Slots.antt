@@ -48,6 +48,12 @@ rows_at [] k some lt none = absurd (omega (arith, lt))
 rows_at (n ∷ ns) zero some lt none = ap (λ (unread : Option Unread). rows_or unread n.rows) (sym none)
 rows_at (n ∷ ns) (suc k) some lt none = rows_at ns k some (omega (arith, lt)) none
 
+-- nothing of it is unread
+pub none_at : (nodes : List NodeRows) (k : ℕ) (some : NodeRows) → k < length nodes → IsRead nodes k → (get_or nodes k some).unread ≡ None
+none_at [] k some lt none = absurd (omega (arith, lt))
+none_at (n ∷ ns) zero some lt none = none
+none_at (n ∷ ns) (suc k) some lt none = none_at ns k some (omega (arith, lt)) none
+
 -- the rows of a node that is unread
 pub unread_at : (nodes : List NodeRows) (k : ℕ) (here : NodeRows) (unread : Unread) → k < length nodes → here ≡ get_or nodes k here → here.unread ≡ Some unread
     → (bag_at (map as_bag nodes) k).rows ≡ rows_unread unread

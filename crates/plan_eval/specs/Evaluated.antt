@@ -34,6 +34,11 @@ pub record LosesOnly (place : ℕ) (nodes left : List NodeRows) : Type 0 where
   pub widths : map (λ bag. bag.width) (map as_bag left) ≡ map (λ bag. bag.width) (map as_bag nodes)
   pub others : (other : ℕ) → other ≢ place → bag_at (map as_bag left) other ≡ bag_at (map as_bag nodes) other
 
+-- all widths stay, and the rows of all nodes but these two
+pub record LosesBoth (first second : ℕ) (nodes left : List NodeRows) : Type 0 where
+  pub widths : map (λ bag. bag.width) (map as_bag left) ≡ map (λ bag. bag.width) (map as_bag nodes)
+  pub others : (other : ℕ) → other ≢ first → other ≢ second → bag_at (map as_bag left) other ≡ bag_at (map as_bag nodes) other
+
 -- all widths stay, and the rows of each node that one behind this place takes
 pub record Keeps (place : ℕ) (last : List ℕ) (nodes left : List NodeRows) : Type 0 where
   pub widths : map (λ bag. bag.width) (map as_bag left) ≡ map (λ bag. bag.width) (map as_bag nodes)

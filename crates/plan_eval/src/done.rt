@@ -32,6 +32,7 @@ pub fn take_node(alloc: Global, input: u32, done: &mut Vec<NodeRows<'_>>) -> Row
     requires read { IsRead done.old.items input }
     ensures rows { result ≡ (bag_at (map as_bag done.old.items) input).rows }
     ensures left { LosesOnly input done.old.items done.new.items }
+    ensures others { (other : ℕ) → IsRead done.old.items other → IsRead done.new.items other }
 {
     done[input as usize].take(alloc)
 }

@@ -1,20 +1,21 @@
-ghost use Rattle.std.specs.Prelude.{◌≡◌, ◌≤◌, ◌<◌, ◌++◌, ◌∷◌, [], ℕ, List, All, IfOk, OnOk, IsTrue, get_or, map, not, length};
+ghost use Rattle.std.specs.Prelude.{◌≡◌, ◌≢◌, ◌≤◌, ◌<◌, ◌++◌, ◌∷◌, [], ℕ, List, All, IfOk, OnOk, IsTrue, get_or, map, not, length};
 ghost use Rattle.row_core.specs.Bags.{SameBag};
 ghost use Rattle.plan_model.specs.Checks.{is_sink};
 ghost use Rattle.plan_model.specs.Plans.{bag_at, bag_of, sink_section};
 ghost use Rattle.plan_model.specs.Joins.{joined};
 ghost use Rattle.plan_model.specs.Widths.{width_of as width_by};
-ghost use Rattle.plan_eval.specs.Evaluated.{IsGood, IsRead, Keeps, as_bag, inputs_in};
+ghost use Rattle.plan_eval.specs.Evaluated.{IsGood, IsRead, Keeps, LosesBoth, as_bag, inputs_in};
 ghost use Rattle.plan_eval.specs.Tables.{files_of};
 
 use crate::TableRows;
 use crate::applying::applied_to;
-use crate::done::{read_node, release, rows_of};
+use crate::done::{read_node, release, rows_of, take_node};
 use crate::gathering::concatenated;
 use crate::node_rows::NodeRows;
 use crate::sections::write_section;
+use crate::takers::takes_last;
 use crate::unread::Unread;
-use op_join::join;
+use op_join::{join, join_owned};
 use plan_model::{JoinKind, KeyPairs, Node, Op, Widths};
 use row_core::{Bytes, NoMemory, Rows};
 use std::alloc::Global;
@@ -138,10 +139,47 @@ fn join_rows(
     let right = inputs[1];
     read_node(alloc, left, done)?;
     read_node(alloc, right, done)?;
+    if are_done(place, last, left, right) {
+        return join_taken(alloc, kind, keys, left, right, done);
+    }
     let rows = join_read(alloc, kind, keys, left, right, done.as_slice())?;
     release(alloc, left, place, last, done);
     release(alloc, right, place, last, done);
     Ok(rows)
+}
+
+// Whether nobody takes the rows of the two nodes again: they are not one node, and no node behind this
+// place takes either.
+fn are_done(place: usize, last: &[usize], left: u32, right: u32) -> bool
+    ensures apart { IsTrue result → left ≢ right }
+    ensures left { IsTrue result → get_or last.now left 0 ≤ place }
+    ensures right { IsTrue result → get_or last.now right 0 ≤ place }
+{
+    left != right && takes_last(place, last, left) && takes_last(place, last, right)
+}
+
+// The join of two nodes whose rows are read, and are moved out of both.
+fn join_taken(
+    alloc: Global,
+    kind: JoinKind,
+    keys: &KeyPairs,
+    left: u32,
+    right: u32,
+    done: &mut Vec<NodeRows<'_>>,
+) -> Result<Rows, NoMemory>
+    requires left { left < length done.old.items }
+    requires right { right < length done.old.items }
+    requires left_read { IsRead done.old.items left }
+    requires right_read { IsRead done.old.items right }
+    requires apart { left ≢ right }
+    ensures rows { let first = bag_at (map as_bag done.old.items) left in let second = bag_at (map as_bag done.old.items) right in
+        IfOk result (λ rows. SameBag rows (joined keys.now first.width second.width first.rows second.rows kind)) }
+    ensures lost { LosesBoth left right done.old.items done.new.items }
+{
+    let widths = join_widths(done.as_slice(), left, right);
+    let left_rows = take_node(alloc, left, done);
+    let right_rows = take_node(alloc, right, done);
+    join_owned(alloc, kind, keys, widths, left_rows, right_rows)
 }
 
 // The join of two nodes whose rows are read.
@@ -160,16 +198,24 @@ fn join_read(
     ensures { let first = bag_at (map as_bag done.now) left in let second = bag_at (map as_bag done.now) right in
         IfOk result (λ rows. SameBag rows (joined keys.now first.width second.width first.rows second.rows kind)) }
 {
-    let widths = Widths {
-        left: width_of(done, left),
-        right: width_of(done, right),
-    };
     join(
         alloc,
         kind,
         keys,
-        widths,
+        join_widths(done, left, right),
         rows_of(done, left),
         rows_of(done, right),
     )
+}
+
+fn join_widths(done: &[NodeRows<'_>], left: u32, right: u32) -> Widths
+    requires left { left < length done.now }
+    requires right { right < length done.now }
+    ensures left { result.left ≡ (bag_at (map as_bag done.now) left).width }
+    ensures right { result.right ≡ (bag_at (map as_bag done.now) right).width }
+{
+    Widths {
+        left: width_of(done, left),
+        right: width_of(done, right),
+    }
 }

@@ -32,6 +32,7 @@ impl<'a> NodeRows<'a> {
     pub fn take(&mut self, alloc: Global) -> Rows
         ensures rows { result ≡ self.old.rows }
         ensures width { self.new.width ≡ self.old.width }
+        ensures unread { self.new.unread ≡ self.old.unread }
     {
         mem::replace(&mut self.rows, Rows::new(alloc))
     }
