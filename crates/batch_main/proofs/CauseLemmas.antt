@@ -1,5 +1,5 @@
 -- From what was made, and how it was told, to the cause of the answer.
-use Rattle.std.proofs.Common.{◌≡◌, inl, inr, ℕ, ◌≤◌, IsTrue, Option, Some, None, Result, Ok, Err, List, [], ◌++◌, length, refl, sym, subst, ◌∙◌, ap}
+use Rattle.std.proofs.Common.{◌≡◌, inl, inr, ℕ, ◌≤◌, IsTrue, Option, Some, None, Result, Ok, Err, List, [], ◌++◌, length, sym, subst, ◌∙◌, ap}
 use Rattle.std.specs.Prelude.{MatchResult}
 use Rattle.std.proofs.Math.Seq.{take-length}
 use Rattle.std.proofs.lemmas.List.{append-nil}

@@ -1,5 +1,5 @@
 -- The clauses of a run, from the cause of its answer.
-use Rattle.std.proofs.Common.{◌≡◌, ◌⊎◌, inl, inr, ℕ, Bool, true, false, Option, Some, None, Result, Ok, Err, IsTrue, IsSome, IsNone, IfSome, Contains, List, [], ◌∷◌, ◌++◌, refl, sym, subst, ◌∙◌, ap, arith}
+use Rattle.std.proofs.Common.{◌≡◌, ◌⊎◌, inl, inr, ℕ, true, false, Option, Some, None, IsTrue, IsSome, IsNone, IfSome, Contains, List, [], ◌∷◌, refl, sym, ◌∙◌, ap, arith}
 use Rattle.std.specs.Prelude.{slice_get}
 use Rattle.std.specs.Option.{option_map}
 use Rattle.std.proofs.lemmas.Option.{same_Some}
@@ -7,12 +7,8 @@ use Rattle.estate.specs.Contents.{Contents}
 use Rattle.estate.specs.Holding.{job_under}
 use Rattle.estate.specs.Printed.{Printed}
 use Rattle.estate.specs.World.{World}
-use Rattle.estate.specs.declared.commit.Commit.{Commit}
-use Rattle.job_json.specs.Texts.{job_in}
 use Rattle.job_json.specs.declared.job.Job.{Job}
-use Rattle.plan_model.specs.Checks.{plan_faults}
 use Rattle.plan_model.specs.declared.plan_fault.PlanFault.{PlanFault}
-use Rattle.batch_words.specs.declared.word_kind.WordKind.{WordKind}
 use Rattle.batch_main.specs.Causes.{Cause, HasFault, HasFinished, WhyNotRun}
 use Rattle.batch_main.specs.Jobs.{IsAccepted, fault_in, fault_of}
 use Rattle.batch_main.specs.Refusals.{answer_to, plan_fault}

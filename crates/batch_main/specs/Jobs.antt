@@ -1,5 +1,5 @@
 -- Which texts are of an accepted job, and why the others are refused.
-use Rattle.std.specs.Prelude.{◌≡◌, ⊤, ℕ, List, [], Option, Some, None, Result, Ok, Err, slice_get}
+use Rattle.std.specs.Prelude.{◌≡◌, ⊤, ℕ, List, [], Option, Some, Result, Ok, Err, slice_get}
 use Rattle.std.specs.Option.{option_map}
 use Rattle.job_json.specs.Texts.{job_in}
 use Rattle.job_json.specs.declared.job.Job.{Job}

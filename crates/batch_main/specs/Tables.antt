@@ -1,5 +1,5 @@
 -- The tables of a job, with their files.
-use Rattle.std.specs.Prelude.{◌≡◌, ℕ, List, length, map}
+use Rattle.std.specs.Prelude.{ℕ, List, length, map}
 use Rattle.plan_eval.specs.declared.table_files.TableFiles.{TableFiles}
 use Rattle.batch_main.specs.declared.listed_table.ListedTable.{ListedTable}
 
