@@ -370,23 +370,99 @@ fn refuses_jobs(rt: HostRuntime) -> Result<(), Fail> {
     Ok(())
 }
 
+// A job whose filter, node 1, tests an expression whose lists stand so deep one within another.
+fn deep_job(alloc: Global, depth: usize) -> Result<Vec<u8>, NoMemory> {
+    let mut text =
+        b"{\"job\":\"a\",\"nodes\":[{\"op\":\"source\",\"table\":\"t\",\"columns\":[[\"k\",\"int\"]]},{\"op\":\"filter\",\"input\":0,\"where\":[\"isnull\",".to_vec(
+            alloc,
+        )?;
+    for _ in 1..depth {
+        text.extend_from_slice(b"[\"add\",[\"null\"],")?;
+    }
+    text.extend_from_slice(b"[\"col\",0]")?;
+    for _ in 1..depth {
+        text.push(b']')?;
+    }
+    text.extend_from_slice(b"]},{\"op\":\"sink\",\"input\":1,\"name\":\"s\"}]}")?;
+    Ok(text)
+}
+
 #[test]
 fn refuses_texts_that_are_too_large_or_too_deep(rt: HostRuntime) -> Result<(), Fail> {
     let alloc = rt.alloc();
-    let blanks = vec![in alloc; b' '; 1_048_577]?;
-    let brackets = vec![in alloc; b'['; 1_048_576]?;
-    let large = serve_line(alloc, "run", over(blanks.as_slice(), &[]))?;
-    let deep = serve_line(alloc, "run", over(brackets.as_slice(), &[]))?;
-    assert_eq!(rt; large.0, 2);
-    assert_eq!(rt;
-        large.1.as_slice(),
-        b"job-refused too-many node=- name=bytes\n".as_slice()
+    let cases: [(Vec<u8>, u8, &str); 6] = [
+        (
+            vec![in alloc; b' '; 1_048_577]?,
+            2,
+            "job-refused too-many node=- name=bytes\n",
+        ),
+        (
+            vec![in alloc; b'['; 1_048_576]?,
+            2,
+            "job-refused not-json node=- name=-\n",
+        ),
+        (
+            vec![in alloc; b'['; 200]?,
+            2,
+            "job-refused not-json node=- name=-\n",
+        ),
+        (
+            deep_job(alloc, 33)?,
+            2,
+            "job-refused too-many node=1 name=depth\n",
+        ),
+        (
+            deep_job(alloc, 32)?,
+            2,
+            "job-refused too-many node=1 name=depth\n",
+        ),
+        (deep_job(alloc, 31)?, 0, "finished job=a\n"),
+    ];
+    for (job, wanted, told) in &cases {
+        let (status, printed, _) = serve_line(alloc, "run", over(job.as_slice(), &[]))?;
+        assert_eq!(rt; status, *wanted);
+        assert_eq!(rt; printed.as_slice(), told.as_bytes());
+    }
+    Ok(())
+}
+
+// Runs the job over one file of these bytes, and gives the status and the text of the commit.
+fn run_file(alloc: Global, file: Vec<u8>) -> Result<(u8, Bytes), NoMemory> {
+    let mut files = Files::new(alloc);
+    files.push(Bytes::from_vec(file))?;
+    let mut tables = Tables::new(alloc);
+    tables.push(Table {
+        table: Bytes::from_slice(alloc, b"orders")?,
+        files,
+    })?;
+    let job = Bytes::from_slice(alloc, JOB.as_bytes())?;
+    let none = numbers(alloc, &[])?;
+    let mut estate = new_estate(alloc, &[])?;
+    let mut inputs = MemInputs::new(alloc, &job, &tables, &none)?;
+    let mut printer = MemPrinter::new(alloc, &none)?;
+    let mut clock = FixedClock::new(alloc, &none)?;
+    let words = words_of(alloc, "run")?;
+    let outcome = run(
+        alloc,
+        words.as_slice(),
+        &mut estate,
+        &mut inputs,
+        &mut printer,
+        &mut clock,
+        &NoGate,
     );
-    assert_eq!(rt; deep.0, 2);
-    assert_eq!(rt;
-        deep.1.as_slice(),
-        b"job-refused not-json node=- name=-\n".as_slice()
-    );
+    Ok((outcome.status, first_commit(alloc, &estate)?.1))
+}
+
+#[test]
+fn any_bytes_are_a_table(rt: HostRuntime) -> Result<(), Fail> {
+    let alloc = rt.alloc();
+    // One record of many empty cells, one of one cell, and one that is no UTF-8: none has an amount.
+    for byte in [b',', b'"', 255] {
+        let (status, text) = run_file(alloc, vec![in alloc; byte; 100_000]?)?;
+        assert_eq!(rt; status, 0);
+        assert_eq!(rt; text.as_slice(), b"sink out\n".as_slice());
+    }
     Ok(())
 }
 
