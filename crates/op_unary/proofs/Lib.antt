@@ -1,10 +1,11 @@
 pub mod Orders
 pub mod Sames
+pub mod ByHash
+pub mod Firsts
+pub mod Marks
 pub mod Runs
 pub mod Pieces
 pub mod Sums
 pub mod Owed
 pub mod Matched
 pub mod Rests
-pub mod Repeats
-pub mod Pointed

@@ -1,11 +1,12 @@
 ghost use Rattle.std.specs.Prelude.{◌≡◌, ◌++◌, [], get_or, map, IfOk, OnOk};
 ghost use Rattle.std.specs.List.Sorted.{IsSorted};
 ghost use Rattle.row_core.specs.Bags.{SameBag};
-ghost use Rattle.row_core.specs.Values.{row_cmp};
 ghost use Rattle.plan_model.specs.Operators.{agg_value, aggregated, key_of};
+ghost use Rattle.op_unary.specs.Hashes.{hash_cmp};
 
-use crate::cells::{borrowed, copied, first_cell};
-use crate::keys::{by_key, owned_run_length, run_length, sort_by_keys};
+use crate::cells::{copied, first_cell};
+use crate::keyed::Keyed;
+use crate::keys::{by_key, run_length};
 use crate::telling::tell;
 use plan_model::Agg;
 use row_core::{NoMemory, Row, Rows};
@@ -19,63 +20,37 @@ pub fn aggregate(alloc: Global, keys: &[u32], aggs: &[Agg], rows: &[Row]) -> Res
     aggregate_runs(alloc, keys, aggs, sorted.as_slice())
 }
 
-// The same of rows in the order of their keys, so that those of one key stand together.
+// The same of rows of which those of one key stand together.
 fn aggregate_runs(
     alloc: Global,
     keys: &[u32],
     aggs: &[Agg],
-    sorted: &[&Row],
+    sorted: &[Keyed],
 ) -> Result<Rows, NoMemory>
-    requires { IsSorted row_cmp (map (λ row. key_of keys.now row.now) sorted.now) }
-    ensures { IfOk result (λ made. SameBag made (aggregated keys.now aggs.now (map (λ row. row.now) sorted.now))) }
+    requires { IsSorted hash_cmp (map (λ keyed. key_of keys.now keyed.row.now) sorted.now) }
+    ensures { IfOk result (λ made. SameBag made (aggregated keys.now aggs.now (map (λ keyed. keyed.row.now) sorted.now))) }
 {
     let mut made = Rows::new(alloc);
     let mut start = 0;
     while start < sorted.len() {
         let rest = &sorted[start..];
-        let group = &rest[..run_length(keys, rest)];
-        let row = group_row(alloc, keys, aggs, group)?;
-        made.push(row)?;
-        start += group.len();
-    }
-    Ok(made)
-}
-
-/// What `aggregate` gives, of rows that are the call's own: they are sorted where they stand.
-pub fn aggregate_owned(
-    alloc: Global,
-    keys: &[u32],
-    aggs: &[Agg],
-    rows: Rows,
-) -> Result<Rows, NoMemory>
-    ensures { IfOk result (λ made. SameBag made (aggregated keys.now aggs.now rows)) }
-{
-    let mut sorted = rows.into_vec();
-    sort_by_keys(keys, &mut sorted);
-    aggregate_sorted(alloc, keys, aggs, sorted.as_slice())
-}
-
-// The same of rows in the order of their keys.
-fn aggregate_sorted(
-    alloc: Global,
-    keys: &[u32],
-    aggs: &[Agg],
-    rows: &[Row],
-) -> Result<Rows, NoMemory>
-    requires { IsSorted row_cmp (map (key_of keys.now) rows.now) }
-    ensures { IfOk result (λ made. SameBag made (aggregated keys.now aggs.now rows.now)) }
-{
-    let mut made = Rows::new(alloc);
-    let mut start = 0;
-    while start < rows.len() {
-        let rest = &rows[start..];
-        let size = owned_run_length(keys, rest);
-        let group = borrowed(alloc, &rest[..size])?;
+        let size = run_length(keys, rest);
+        let group = rows_of(alloc, &rest[..size])?;
         let row = group_row(alloc, keys, aggs, group.as_slice())?;
         made.push(row)?;
         start += size;
     }
     Ok(made)
+}
+
+fn rows_of<'a>(alloc: Global, group: &[Keyed<'a>]) -> Result<Vec<&'a Row>, NoMemory>
+    ensures { IfOk result (λ rows. map (λ row. row.now) rows.items ≡ map (λ keyed. keyed.row.now) group.now) }
+{
+    let mut rows = Vec::with_capacity(alloc, group.len())?;
+    for keyed in group {
+        rows.push(keyed.row)?;
+    }
+    Ok(rows)
 }
 
 // The key of the first row, then the aggregates of the group.

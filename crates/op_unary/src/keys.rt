@@ -1,10 +1,14 @@
-ghost use Rattle.std.specs.Prelude.{◌≡◌, [], get_or, map, IfOk};
+ghost use Rattle.std.specs.Prelude.{◌≡◌, [], All, get_or, map, IfOk};
 ghost use Rattle.std.specs.List.{prefix_len};
 ghost use Rattle.std.specs.List.Sorted.{IsPermutation, IsSorted};
+ghost use Rattle.std.specs.Ordering.{nat_cmp, ordering_then};
 ghost use Rattle.row_core.specs.Values.{row_cmp, same_row};
 ghost use Rattle.plan_model.specs.Operators.{key_of};
+ghost use Rattle.op_unary.specs.Hashes.{hash_cmp, hash_of};
 
-use crate::cells::{borrowed, cell, cmp_cells};
+use crate::cells::{cell, cmp_cells};
+use crate::hashing::hash_key;
+use crate::keyed::Keyed;
 use row_core::{NoMemory, Row};
 use std::alloc::Global;
 use std::cmp::Ordering;
@@ -22,56 +26,60 @@ pub fn cmp_keys(keys: &[u32], a: &Row, b: &Row) -> Ordering
     }
 }
 
-/// The rows in the order of their keys.
-pub fn by_key<'a>(alloc: Global, keys: &[u32], rows: &'a [Row]) -> Result<Vec<&'a Row>, NoMemory>
-    ensures rows { IfOk result (λ sorted. IsPermutation rows.now (map (λ row. row.now) sorted.items)) }
-    ensures order { IfOk result (λ sorted. IsSorted row_cmp (map (λ row. key_of keys.now row.now) sorted.items)) }
+/// The rows in the order of their keys' hashes, and of their keys where hashes are equal, so that those of
+/// one key stand together.
+pub fn by_key<'a>(alloc: Global, keys: &[u32], rows: &'a [Row]) -> Result<Vec<Keyed<'a>>, NoMemory>
+    ensures rows { IfOk result (λ sorted. IsPermutation rows.now (map (λ keyed. keyed.row.now) sorted.items)) }
+    ensures order { IfOk result (λ sorted. IsSorted hash_cmp (map (λ keyed. key_of keys.now keyed.row.now) sorted.items)) }
 {
-    let mut sorted = borrowed(alloc, rows)?;
-    sorted.sort_unstable_by(|a, b| cmp_keys(keys, a, b));
+    let mut sorted = hashed(alloc, keys, rows)?;
+    sorted.sort_unstable_by(|a, b| cmp_keyed(keys, a, b));
     Ok(sorted)
 }
 
+// The rows, each with its key's hash.
+fn hashed<'a>(alloc: Global, keys: &[u32], rows: &'a [Row]) -> Result<Vec<Keyed<'a>>, NoMemory>
+    ensures rows { IfOk result (λ all. map (λ keyed. keyed.row.now) all.items ≡ rows.now) }
+    ensures hashes { IfOk result (λ all. All (λ keyed. keyed.hash ≡ hash_of (key_of keys.now keyed.row.now)) all.items) }
+{
+    let mut all = Vec::with_capacity(alloc, rows.len())?;
+    for row in rows {
+        all.push(keyed(keys, row))?;
+    }
+    Ok(all)
+}
+
+fn keyed<'a>(keys: &[u32], row: &'a Row) -> Keyed<'a>
+    ensures row { result.row.now ≡ row.now }
+    ensures hash { result.hash ≡ hash_of (key_of keys.now result.row.now) }
+{
+    let hash = hash_key(keys, row);
+    Keyed { hash, row }
+}
+
+fn cmp_keyed(keys: &[u32], a: &Keyed, b: &Keyed) -> Ordering
+    ensures { result ≡ ordering_then (nat_cmp a.now.hash b.now.hash) (row_cmp (key_of keys.now a.now.row.now) (key_of keys.now b.now.row.now)) }
+{
+    match a.hash.cmp(&b.hash) {
+        Ordering::Equal => cmp_keys(keys, a.row, b.row),
+        unequal => unequal,
+    }
+}
+
 /// How many rows at the front have the key of the first.
-pub fn run_length(keys: &[u32], rows: &[&Row]) -> usize
-    ensures { result ≡ prefix_len (λ row. same_row (key_of keys.now (get_or (map (λ row. row.now) rows.now) 0 [])) (key_of keys.now row.now)) rows.now }
+pub fn run_length(keys: &[u32], rows: &[Keyed]) -> usize
+    ensures { result ≡ prefix_len (λ keyed. same_row (key_of keys.now (get_or (map (λ keyed. keyed.row.now) rows.now) 0 [])) (key_of keys.now keyed.row.now)) rows.now }
 {
     match rows.first() {
-        Some(first) => count_run(keys, first, rows),
+        Some(first) => count_run(keys, first.row, rows),
         None => 0,
     }
 }
 
-fn count_run(keys: &[u32], first: &Row, rows: &[&Row]) -> usize
-    ensures { result ≡ prefix_len (λ row. same_row (key_of keys.now first.now) (key_of keys.now row.now)) rows.now }
+fn count_run(keys: &[u32], first: &Row, rows: &[Keyed]) -> usize
+    ensures { result ≡ prefix_len (λ keyed. same_row (key_of keys.now first.now) (key_of keys.now keyed.row.now)) rows.now }
 {
     rows.iter()
-        .take_while(|row| cmp_keys(keys, first, row).is_eq())
-        .count()
-}
-
-/// Sorts the rows by their keys.
-pub fn sort_by_keys(keys: &[u32], rows: &mut Vec<Row>)
-    ensures rows { IsPermutation rows.old.items rows.new.items }
-    ensures order { IsSorted row_cmp (map (key_of keys.now) rows.new.items) }
-{
-    rows.sort_unstable_by(|a, b| cmp_keys(keys, a, b));
-}
-
-/// How many rows at the front have the key of the first.
-pub fn owned_run_length(keys: &[u32], rows: &[Row]) -> usize
-    ensures { result ≡ prefix_len (λ row. same_row (key_of keys.now (get_or rows.now 0 [])) (key_of keys.now row)) rows.now }
-{
-    match rows.first() {
-        Some(first) => count_alike(keys, first, rows),
-        None => 0,
-    }
-}
-
-fn count_alike(keys: &[u32], first: &Row, rows: &[Row]) -> usize
-    ensures { result ≡ prefix_len (λ row. same_row (key_of keys.now first.now) (key_of keys.now row)) rows.now }
-{
-    rows.iter()
-        .take_while(|row| cmp_keys(keys, first, row).is_eq())
+        .take_while(|keyed| cmp_keys(keys, first, keyed.row).is_eq())
         .count()
 }

@@ -7,9 +7,12 @@ mod cells;
 mod each_once;
 mod exploding;
 mod filtering;
+mod hashing;
+mod keyed;
 mod keys;
 mod laws;
 mod operators;
+mod placed;
 mod projecting;
 mod telling;
 #[cfg(test)]

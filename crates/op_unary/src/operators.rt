@@ -3,7 +3,7 @@ ghost use Rattle.row_core.specs.Bags.{SameBag};
 ghost use Rattle.plan_model.specs.Checks.{columns_fit};
 ghost use Rattle.op_unary.specs.Applied.{applied, is_unary};
 
-use crate::aggregating::{aggregate, aggregate_owned};
+use crate::aggregating::aggregate;
 use crate::cells::copies;
 use crate::each_once::{distinct, distinct_owned};
 use crate::exploding::{explode, explode_owned};
@@ -49,9 +49,9 @@ pub fn apply_owned(alloc: Global, op: &Op, rows: Rows) -> Result<Rows, NoMemory>
         Op::Explode { column, separator } => explode_owned(alloc, *column, *separator, rows),
         Op::Union => Ok(rows),
         Op::Aggregate { keys, aggs } => {
-            aggregate_owned(alloc, keys.as_slice(), aggs.as_slice(), rows)
+            aggregate(alloc, keys.as_slice(), aggs.as_slice(), rows.as_slice())
         }
-        Op::Distinct => Ok(distinct_owned(rows)),
+        Op::Distinct => distinct_owned(alloc, rows),
         Op::Source { .. } | Op::Join { .. } | Op::Sink { .. } => unreachable!(),
     }
 }

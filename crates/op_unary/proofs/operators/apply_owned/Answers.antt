@@ -1,7 +1,7 @@
 use Rattle.std.proofs.Common.{◌≡◌, ◌∙◌, All, IsTrue, List, ap, length, refl, sym, subst}
 use Rattle.std.proofs.lemmas.Result.{IfOk-weaker}
 use Rattle.std.specs.List.{list_all}
-use Rattle.row_core.specs.Bags.{SameBag}
+use Rattle.row_core.specs.Bags.{SameBag, one_of_each}
 use Rattle.row_core.specs.Exprs.{columns_within}
 use Rattle.row_core.specs.declared.expr.Expr.{Expr}
 use Rattle.plan_model.specs.Operators.{aggregated, exploded, filtered, projected}
@@ -40,11 +40,14 @@ pub returns-in-Union : goal.returns-in-Union
 returns-in-Union c = list c.args.op.now Union c.args.rows c.args.rows c.in-Union.is refl c.args.rows refl
 
 pub returns-in-Distinct : goal.returns-in-Distinct
-returns-in-Distinct c = bag c.args.op.now Distinct c.args.rows c.args.rows c.in-Distinct.is refl c.distinct_owned.result c.distinct_owned.ensures
+returns-in-Distinct c =
+    IfOk-weaker c.distinct_owned.result (λ given. SameBag given (one_of_each c.args.rows)) (λ given. SameBag given (applied c.args.op.now c.args.rows))
+    (bag c.args.op.now Distinct c.args.rows c.args.rows c.in-Distinct.is refl) c.distinct_owned.ensures
 
 pub returns-in-Aggregate : goal.returns-in-Aggregate
 returns-in-Aggregate c =
     let keys = c.as_slice-in-Aggregate.result.now in
     let aggs = c.as_slice-in-Aggregate-2.result.now in
-    IfOk-weaker c.aggregate_owned.result (λ given. SameBag given (aggregated keys aggs c.args.rows)) (λ given. SameBag given (applied c.args.op.now c.args.rows))
-    (bag c.args.op.now (Aggregate keys aggs) c.args.rows c.args.rows (c.in-Aggregate.is ∙ (λ i. Aggregate (sym c.as_slice-in-Aggregate.ensures i) (sym c.as_slice-in-Aggregate-2.ensures i))) refl) c.aggregate_owned.ensures
+    let rows = c.as_slice-in-Aggregate-3.result.now in
+    IfOk-weaker c.aggregate.result (λ given. SameBag given (aggregated keys aggs rows)) (λ given. SameBag given (applied c.args.op.now c.args.rows))
+    (bag c.args.op.now (Aggregate keys aggs) c.args.rows rows (c.in-Aggregate.is ∙ (λ i. Aggregate (sym c.as_slice-in-Aggregate.ensures i) (sym c.as_slice-in-Aggregate-2.ensures i))) c.as_slice-in-Aggregate-3.ensures) c.aggregate.ensures
