@@ -10,5 +10,6 @@ mod table;
 #[cfg(test)]
 mod tests;
 
+pub use lines::SinkLines;
 pub use sink::{sink_text, sink_text_owned};
 pub use table::read_table;

@@ -1,22 +1,24 @@
-ghost use Rattle.std.specs.Prelude.{◌≡◌, length, map, IfOk};
+ghost use Rattle.std.specs.Prelude.{◌≡◌, ◌++◌, [], length, map, IfOk};
 ghost use Rattle.std.specs.List.{flat_map};
 ghost use Rattle.row_core.specs.Bags.{ascending};
-ghost use Rattle.plan_model.specs.Sinks.{line_less};
+ghost use Rattle.plan_model.specs.Sinks.{line_less, line_of};
 ghost use Rattle.csv_tables.specs.Lines.{cut, total};
 
+use crate::line::write_line;
 use bag_laws::sorted_texts_ascend;
-use row_core::{Bytes, NoMemory};
-use std::alloc::Global;
+use csv::WriterBuilder;
+use row_core::{Bytes, NoMemory, Row, Rows};
+use std::alloc::{AllocError, Global};
 use std::marker::Model;
 
-/// Lines that stand one after the other in a text.
+/// The lines of rows that go to a sink, one after the other as they came.
 #[derive(Drop)]
-pub struct Lines {
+pub struct SinkLines {
     text: Vec<u8>,
     lengths: Vec<usize>,
 }
 
-impl Model for Lines {
+impl Model for SinkLines {
     ghost use Rattle.std.specs.Prelude.{◌≡◌, ℕ, List, length};
     ghost use Rattle.csv_tables.specs.Lines.{cut, total};
 
@@ -27,23 +29,55 @@ impl Model for Lines {
     ghost invariant = { λ l. total l.lengths.items ≡ length l.text.items };
 }
 
-impl Lines {
-    /// The lines of these lengths, in bytes.
-    pub fn new(text: Vec<u8>, lengths: Vec<usize>) -> Self
-        requires { total lengths.items ≡ length text.items }
-        ensures { result ≡ cut lengths.items text.items }
+impl SinkLines {
+    /// No lines.
+    pub fn new(alloc: Global) -> Self
+        ensures { result ≡ [] }
     {
-        Lines { text, lengths }
+        SinkLines {
+            text: Vec::new(alloc),
+            lengths: Vec::new(alloc),
+        }
+    }
+
+    /// The lines with those of further rows behind them, a line for each row, as docs/FORMATS.md says.
+    /// Rows may differ in width.
+    pub fn with_rows(self, rows: &Rows) -> Result<Self, NoMemory>
+        ensures { IfOk result (λ lines. lines ≡ self ++ map line_of rows.now) }
+    {
+        let SinkLines { text, lengths } = self;
+        write_lines(text, lengths, rows.as_slice())
     }
 
     /// The lines in ascending order of their bytes, one after the other.
     pub fn into_sorted_text(self, alloc: Global) -> Result<Bytes, NoMemory>
         ensures { IfOk result (λ text. text ≡ flat_map (λ line. line) (ascending line_less self)) }
     {
-        let Lines { text, lengths } = self;
+        let SinkLines { text, lengths } = self;
         let mut lines = slices(alloc, text.as_slice(), lengths)?;
         sort(&mut lines);
         joined(alloc, lines.as_slice(), text.len())
+    }
+}
+
+// Writes the rows' lines behind the text, and notes their lengths. A flush after each row shows where
+// its line ends.
+fn write_lines(text: Vec<u8>, mut lengths: Vec<usize>, rows: &[Row]) -> Result<SinkLines, NoMemory>
+    requires { total lengths.items ≡ length text.items }
+    ensures { IfOk result (λ lines. lines ≡ cut lengths.items text.items ++ map line_of rows.now) }
+{
+    let mut start = text.len();
+    let mut writer = WriterBuilder::new().flexible(true).from_writer(text);
+    lengths.reserve(rows.len())?;
+    for row in rows {
+        write_line(&mut writer, row.as_slice())?;
+        let end = writer.get_ref().len();
+        lengths.push(end - start)?;
+        start = end;
+    }
+    match writer.into_inner() {
+        Ok(text) => Ok(SinkLines { text, lengths }),
+        Err(_) => Err(AllocError),
     }
 }
 

@@ -1,4 +1,4 @@
-use crate::{read_table, sink_text, sink_text_owned};
+use crate::{SinkLines, read_table, sink_text, sink_text_owned};
 use plan_model::{Kind, Kinds};
 use row_core::{Bytes, NoMemory, Row, Rows, Value};
 use std::alloc::Global;
@@ -122,6 +122,11 @@ fn writes_sinks(rt: HostRuntime) -> Result<(), Fail> {
     for (letters, text, other_letters, other_text, want) in SINKS {
         let first = read(rt.alloc(), letters, text)?;
         let second = read(rt.alloc(), other_letters, other_text)?;
+        let lines = SinkLines::new(rt.alloc())
+            .with_rows(&first)?
+            .with_rows(&second)?;
+        let written = lines.into_sorted_text(rt.alloc())?;
+        assert_eq!(rt; written.as_slice(), want.as_bytes(), "at {text}");
         let rows = both(first, second)?;
         let written = sink_text(rt.alloc(), &rows)?;
         assert_eq!(rt; written.as_slice(), want.as_bytes(), "at {text}");
