@@ -1,11 +1,14 @@
 -- Rows that are read and taken file by file.
-use Rattle.std.proofs.Common.{◌≡◌, ℕ, zero, suc, ◌+◌, ◌<◌, All, List, [], ◌∷◌, ◌++◌, length, take, get_or, sym, subst, ap, ◌∙◌, arith}
+use Rattle.std.proofs.Common.{◌≡◌, ℕ, zero, suc, ◌+◌, ◌<◌, All, List, [], ◌∷◌, ◌++◌, length, take, get_or, IsTrue, refl, sym, subst, ap, ◌∙◌, arith}
 use Rattle.std.proofs.lemmas.List.{append-nil, take_more}
 use Rattle.std.proofs.lemmas.List.Concat.{flat_map-append}
 use Rattle.std.proofs.lemmas.List.Elements.{All-nil, All-cons, All-head, All-tail}
 use Rattle.std.specs.List.{flat_map}
 use Rattle.row_core.specs.Bags.{SameBag}
 use Rattle.bag_laws.specs.Rows.{OneRow as Row}
+use Rattle.op_unary.specs.Applied.{applied, is_row_wise}
+use Rattle.plan_model.specs.declared.op.Op.{Op}
+use Rattle.plan_model.specs.declared.op.Op.TheVariants.{Source, Filter, Project, Explode, Union, Aggregate, Distinct, Join, Sink}
 
 all_left : {A : Type 0} (P : A → Type 0) (xs ys : List A) → All P (xs ++ ys) → All P xs
 all_left P [] ys all = All-nil P
@@ -27,6 +30,17 @@ one_file_more {X} {A} f files i file lt is =
     ap (flat_map f) (take_more files i file lt ∙ ap (λ (one : X). take i files ++ one ∷ []) (sym is))
     ∙ flat_map-append f (take i files) (file ∷ [])
     ∙ ap (λ (l : List A). flat_map f (take i files) ++ l) (append-nil (f file))
+
+pub none_given : (op : Op) → IsTrue (is_row_wise op) → applied op [] ≡ []
+none_given (Source table columns) holds = cc
+none_given (Filter test) holds = refl
+none_given (Project exprs) holds = refl
+none_given (Explode column separator) holds = refl
+none_given Union holds = refl
+none_given (Aggregate keys aggs) holds = cc
+none_given Distinct holds = cc
+none_given (Join kind keys) holds = cc
+none_given (Sink name) holds = cc
 
 module _ (given : List Row → List Row) (sum : (rows others : List Row) → given (rows ++ others) ≡ given rows ++ given others)
     (same : (rows others more further : List Row) → SameBag rows others → SameBag more further → SameBag (rows ++ more) (others ++ further)) where

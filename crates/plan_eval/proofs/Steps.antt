@@ -14,8 +14,7 @@ use Rattle.plan_model.specs.Widths.{width_of, widths_of, widths_from, input_widt
 use Rattle.plan_model.specs.declared.node.Node.{Node}
 use Rattle.plan_model.specs.declared.op.Op.{Op}
 use Rattle.plan_model.specs.declared.op.Op.TheVariants.{Source, Filter, Project, Explode, Union, Aggregate, Distinct, Join, Sink}
-use Rattle.plan_eval.specs.Evaluated.{Alike, HasItsWidth, IsGood, Keeps, as_bag, inputs_in}
-use Rattle.plan_eval.specs.declared.node_rows.NodeRows.{NodeRows}
+use Rattle.plan_eval.specs.Evaluated.{Alike, HasItsWidth, IsGood, KeepsBags}
 use Rattle.plan_eval.proofs.Alikes.{alike_itself, alike_on, by_bags, bag_width, width_at}
 use Rattle.plan_eval.proofs.Sound.{IsSound, gives_within}
 use Rattle.plan_eval.proofs.Texts.{section_same}
@@ -100,26 +99,32 @@ pub widths_are : (bags : List Bag) (inputs : List ℕ) → map (λ bag. bag.widt
 widths_are bags [] = refl
 widths_are bags (input ∷ inputs) = λ i. width_at bags input i ∷ widths_are bags inputs i
 
-along : (bags others : List Bag) (inputs : List ℕ) → All (λ input. Alike (bag_at bags input) (bag_at others input)) inputs
+pub along : (bags others : List Bag) (inputs : List ℕ) → All (λ input. Alike (bag_at bags input) (bag_at others input)) inputs
     → (place : ℕ) → Alike (bag_at (map (bag_at bags) inputs) place) (bag_at (map (bag_at others) inputs) place)
 along bags others [] alike place = alike_itself empty_bag
 along bags others (input ∷ inputs) alike zero = alike 0 input (omega arith)
 along bags others (input ∷ inputs) alike (suc place) = along bags others inputs (λ k d lt. alike (suc k) d (omega (arith, lt))) place
 
+-- rows of a bag's width, in whatever order
+pub fits_too : (bag made : Bag) → made.width ≡ bag.width → SameBag made.rows bag.rows → HasItsWidth bag → HasItsWidth made
+fits_too bag made width rows fit =
+    subst (λ (width : ℕ). All (λ row. length row ≡ width) made.rows) (sym width)
+    (All-permutation (λ row. length row ≡ bag.width) bag.rows made.rows (permutation_of_same bag.rows made.rows (same_sym rows)) fit)
+
 -- ---- the nodes so far
 
--- the rows that are kept for the nodes so far are the definition's, where a node behind them takes them
-pub record IsEvaluated (files : List ℕ → List (List ℕ)) (last : List ℕ) (nodes : List Node) (done : List NodeRows) : Type 0 where
-  pub widths : map (λ bag. bag.width) (map as_bag done) ≡ widths_of nodes
+-- the bags that are found for the nodes so far are the definition's, where a node behind them takes them
+pub record IsEvaluated (files : List ℕ → List (List ℕ)) (last : List ℕ) (nodes : List Node) (found : List Bag) : Type 0 where
+  pub widths : map (λ bag. bag.width) found ≡ widths_of nodes
   pub narrow : All (λ width. width ≤ 256) (widths_of nodes)
-  pub alike : (place : ℕ) → gives_rows nodes place ≡ true → length nodes ≤ get_or last place 0 → Alike (bag_at (map as_bag done) place) (bag_at (bags_of files nodes) place)
-  pub fit : (place : ℕ) → gives_rows nodes place ≡ true → length nodes ≤ get_or last place 0 → HasItsWidth (bag_at (map as_bag done) place)
+  pub alike : (place : ℕ) → gives_rows nodes place ≡ true → length nodes ≤ get_or last place 0 → Alike (bag_at found place) (bag_at (bags_of files nodes) place)
+  pub fit : (place : ℕ) → gives_rows nodes place ≡ true → length nodes ≤ get_or last place 0 → HasItsWidth (bag_at found place)
 
-pub long_done : (files : List ℕ → List (List ℕ)) (last : List ℕ) (before : List Node) (done : List NodeRows) → IsEvaluated files last before done → length done ≡ length before
-long_done files last before done so_far =
-    let one = length-map (map as_bag done) (λ (bag : Bag). bag.width) in let two = length-map done as_bag in let all = length-widths_from [] before in
-    let same : length (map (λ bag. bag.width) (map as_bag done)) ≡ length (widths_of before) = ap (λ (widths : List ℕ). length widths) so_far.widths in
-    omega (arith, one, two, all, same)
+pub long_found : (files : List ℕ → List (List ℕ)) (last : List ℕ) (before : List Node) (found : List Bag) → IsEvaluated files last before found → length found ≡ length before
+long_found files last before found so_far =
+    let one = length-map found (λ (bag : Bag). bag.width) in let all = length-widths_from [] before in
+    let same : length (map (λ bag. bag.width) found) ≡ length (widths_of before) = ap (λ (widths : List ℕ). length widths) so_far.widths in
+    omega (arith, one, all, same)
 
 pub none_evaluated : (files : List ℕ → List (List ℕ)) (last : List ℕ) → IsEvaluated files last [] []
 none_evaluated files last = record {
@@ -129,24 +134,16 @@ none_evaluated files last = record {
   fit = λ place gives taken. cc;
 }
 
-module _ (files : List ℕ → List (List ℕ)) (last : List ℕ) (before : List Node) (done : List NodeRows) (so_far : IsEvaluated files last before done) (node : Node) (sound : IsSound before node)
+module _ (files : List ℕ → List (List ℕ)) (last : List ℕ) (before : List Node) (found : List Bag) (so_far : IsEvaluated files last before found) (node : Node) (sound : IsSound before node)
     (taken : All (λ input. length before ≤ get_or last input 0) node.inputs) where
-  abbrev found : List Bag
-  found = map as_bag done
-
   abbrev defined : List Bag
   defined = bags_of files before
 
   abbrev given : List Bag
-  given = inputs_in done node.inputs
+  given = map (bag_at found) node.inputs
 
   abbrev owed : List Bag
   owed = map (bag_at defined) node.inputs
-
-  long_found : length found ≡ length before
-  long_found = let one = length-map found (λ (bag : Bag). bag.width) in let all = length-widths_from [] before in
-      let same : length (map (λ bag. bag.width) found) ≡ length (widths_of before) = ap (λ (widths : List ℕ). length widths) so_far.widths in
-      omega (arith, one, all, same)
 
   long_defined : length defined ≡ length before
   long_defined = let all = length-bags_from files [] before in omega (arith, all)
@@ -154,10 +151,10 @@ module _ (files : List ℕ → List (List ℕ)) (last : List ℕ) (before : List
   each_gives : All (λ input. gives_rows before input ≡ true) node.inputs
   each_gives = AllPass-from_list_all (gives_rows before) node.inputs sound.rows
 
-  pub earlier : All (λ input. input < length done) node.inputs
+  pub earlier : All (λ input. input < length found) node.inputs
   earlier k d lt =
       let within : get_or node.inputs k d < length before = gives_within before (get_or node.inputs k d) (each_gives k d lt) in
-      let same = length-map done as_bag in let long = long_found in omega (arith, within, same, long)
+      let long = long_found files last before found so_far in omega (arith, within, long)
 
   given_widths : map (λ bag. bag.width) given ≡ input_widths (widths_of before) node.inputs
   given_widths = widths_are found node.inputs ∙ ap (λ (widths : List ℕ). input_widths widths node.inputs) so_far.widths
@@ -184,37 +181,27 @@ module _ (files : List ℕ → List (List ℕ)) (last : List ℕ) (before : List
       ∙ ap (λ (section : List ℕ). committed_text files before ++ section)
       (section_of files node.op owed ∙ section_same node.op (bag_at owed 0) (bag_at given 0) (same_sym (inputs_alike 0).rows))
 
-  module _ (made : NodeRows) (width : made.width ≡ width_of node.op (map (λ bag. bag.width) given))
-      (rows : IsTrue (not (is_sink node.op)) → SameBag (as_bag made).rows (bag_of files node.op given).rows)
-      (left : List NodeRows) (kept : Keeps (length before) last done left) where
-    abbrev stays : List Bag
-    stays = map as_bag left
-
+  module _ (made : Bag) (width : made.width ≡ width_of node.op (map (λ bag. bag.width) given))
+      (rows : IsTrue (not (is_sink node.op)) → SameBag made.rows (bag_of files node.op given).rows)
+      (stays : List Bag) (kept : KeepsBags (length before) last found stays) where
     long_stays : length stays ≡ length before
     long_stays = let one = length-map stays (λ (bag : Bag). bag.width) in let other = length-map found (λ (bag : Bag). bag.width) in
         let same : length (map (λ bag. bag.width) stays) ≡ length (map (λ bag. bag.width) found) = ap (λ (widths : List ℕ). length widths) kept.widths in
-        let long = long_found in omega (arith, one, other, same, long)
+        let long = long_found files last before found so_far in omega (arith, one, other, same, long)
 
     made_width : made.width ≡ (bag_of files node.op given).width
     made_width = width ∙ sym (bag_width files node.op given)
 
-    made_alike : not (is_sink node.op) ≡ true → Alike (as_bag made) (bag_of files node.op owed)
-    made_alike gives = alike_on (as_bag made) (bag_of files node.op given) (bag_of files node.op owed)
+    made_alike : not (is_sink node.op) ≡ true → Alike made (bag_of files node.op owed)
+    made_alike gives = alike_on made (bag_of files node.op given) (bag_of files node.op owed)
         (record { width = made_width; rows = rows gives }) (by_bags files node.op given owed inputs_alike)
 
-    made_fits : not (is_sink node.op) ≡ true → HasItsWidth (as_bag made)
-    made_fits gives =
-        let bag = bag_of files node.op given in
-        subst (λ (width : ℕ). All (λ row. length row ≡ width) (as_bag made).rows) (sym made_width)
-        (All-permutation (λ row. length row ≡ bag.width) bag.rows (as_bag made).rows (permutation_of_same bag.rows (as_bag made).rows (same_sym (rows gives))) (bag_wide files node.op given good))
+    made_fits : not (is_sink node.op) ≡ true → HasItsWidth made
+    made_fits gives = fits_too (bag_of files node.op given) made made_width (rows gives) (bag_wide files node.op given good)
 
-    stays_more : map as_bag (left ++ made ∷ []) ≡ stays ++ as_bag made ∷ []
-    stays_more = map-append as_bag left (made ∷ [])
-
-    more_widths : map (λ bag. bag.width) (map as_bag (left ++ made ∷ [])) ≡ widths_of (before ++ node ∷ [])
+    more_widths : map (λ bag. bag.width) (stays ++ made ∷ []) ≡ widths_of (before ++ node ∷ [])
     more_widths =
-        ap (λ (bags : List Bag). map (λ bag. bag.width) bags) stays_more
-        ∙ map-append (λ (bag : Bag). bag.width) stays (as_bag made ∷ [])
+        map-append (λ (bag : Bag). bag.width) stays (made ∷ [])
         ∙ (λ i. (kept.widths ∙ so_far.widths) i ++ (width ∙ ap (width_of node.op) given_widths) i ∷ [])
         ∙ sym (widths_of-more before node)
 
@@ -224,44 +211,49 @@ module _ (files : List ℕ → List (List ℕ)) (last : List ℕ) (before : List
         subst (λ (widths : List ℕ). All (λ width. width ≤ 256) widths) (sym (widths_of-more before node))
         (All-append (λ width. width ≤ 256) (widths_of before) (last ∷ []) so_far.narrow (one_narrow last (leb-true last 256 sound.wide)))
 
-    -- a node that is still to be taken keeps its rows
-    stays_at : (place : ℕ) → place < length before → length (before ++ node ∷ []) ≤ get_or last place 0 → bag_at (stays ++ as_bag made ∷ []) place ≡ bag_at found place
-    stays_at place lt later =
-        let one = old_at stays (as_bag made) place (let long = long_stays in omega (arith, lt, long)) in
-        one ∙ kept.others place (let more = length-append before (node ∷ []) in omega (arith, later, more))
+    -- a node that is still to be taken keeps its bag
+    old_stays : (place : ℕ) → place < length before → bag_at (stays ++ made ∷ []) place ≡ bag_at stays place
+    old_stays place lt = old_at stays made place (let long = long_stays in omega (arith, lt, long))
+
+    stays_alike : (place : ℕ) → length (before ++ node ∷ []) ≤ get_or last place 0 → Alike (bag_at stays place) (bag_at found place)
+    stays_alike place later = record {
+      width = width_at stays place ∙ ap (λ (widths : List ℕ). get_or widths place 0) kept.widths ∙ sym (width_at found place);
+      rows = kept.others place (let more = length-append before (node ∷ []) in omega (arith, later, more));
+    }
 
     before_too : (place : ℕ) → length (before ++ node ∷ []) ≤ get_or last place 0 → length before ≤ get_or last place 0
     before_too place later = let more = length-append before (node ∷ []) in omega (arith, later, more)
 
     more_alike : (place : ℕ) → gives_rows (before ++ node ∷ []) place ≡ true → length (before ++ node ∷ []) ≤ get_or last place 0
-        → Alike (bag_at (stays ++ as_bag made ∷ []) place) (bag_at (defined ++ bag_of files node.op owed ∷ []) place)
+        → Alike (bag_at (stays ++ made ∷ []) place) (bag_at (defined ++ bag_of files node.op owed ∷ []) place)
     more_alike place gives later = elim (gives-more before node place gives) [
       | inl old ↦
           let lt : place < length before = gives_within before place old in
-          let one = stays_at place lt later in
+          let one = old_stays place lt in
           let two = old_at defined (bag_of files node.op owed) place (let long = long_defined in omega (arith, lt, long)) in
           subst (λ (bag : Bag). Alike bag (bag_at (defined ++ bag_of files node.op owed ∷ []) place)) (sym one)
-          (subst (λ (bag : Bag). Alike (bag_at found place) bag) (sym two) (so_far.alike place old (before_too place later)))
+          (subst (λ (bag : Bag). Alike (bag_at stays place) bag) (sym two)
+          (alike_on (bag_at stays place) (bag_at found place) (bag_at defined place) (stays_alike place later) (so_far.alike place old (before_too place later))))
       | inr new ↦
-          let one = new_at stays (as_bag made) place (new.0 ∙ sym long_stays) in
+          let one = new_at stays made place (new.0 ∙ sym long_stays) in
           let two = new_at defined (bag_of files node.op owed) place (new.0 ∙ sym long_defined) in
           subst (λ (bag : Bag). Alike bag (bag_at (defined ++ bag_of files node.op owed ∷ []) place)) (sym one)
-          (subst (λ (bag : Bag). Alike (as_bag made) bag) (sym two) (made_alike new.1))
+          (subst (λ (bag : Bag). Alike made bag) (sym two) (made_alike new.1))
     ]
 
-    more_fit : (place : ℕ) → gives_rows (before ++ node ∷ []) place ≡ true → length (before ++ node ∷ []) ≤ get_or last place 0 → HasItsWidth (bag_at (stays ++ as_bag made ∷ []) place)
+    more_fit : (place : ℕ) → gives_rows (before ++ node ∷ []) place ≡ true → length (before ++ node ∷ []) ≤ get_or last place 0 → HasItsWidth (bag_at (stays ++ made ∷ []) place)
     more_fit place gives later = elim (gives-more before node place gives) [
       | inl old ↦
           let lt : place < length before = gives_within before place old in
-          subst HasItsWidth (sym (stays_at place lt later)) (so_far.fit place old (before_too place later))
-      | inr new ↦ subst HasItsWidth (sym (new_at stays (as_bag made) place (new.0 ∙ sym long_stays))) (made_fits new.1)
+          subst HasItsWidth (sym (old_stays place lt))
+          (fits_too (bag_at found place) (bag_at stays place) (stays_alike place later).width (stays_alike place later).rows (so_far.fit place old (before_too place later)))
+      | inr new ↦ subst HasItsWidth (sym (new_at stays made place (new.0 ∙ sym long_stays))) (made_fits new.1)
     ]
 
-    pub one_more : IsEvaluated files last (before ++ node ∷ []) (left ++ made ∷ [])
+    pub one_more : IsEvaluated files last (before ++ node ∷ []) (stays ++ made ∷ [])
     one_more = record {
       widths = more_widths;
       narrow = more_narrow;
-      alike = λ place gives later. subst (λ (bags : List Bag). Alike (bag_at (map as_bag (left ++ made ∷ [])) place) (bag_at bags place)) (sym (bags_of-more files before node))
-          (subst (λ (bags : List Bag). Alike (bag_at bags place) (bag_at (defined ++ bag_of files node.op owed ∷ []) place)) (sym stays_more) (more_alike place gives later));
-      fit = λ place gives later. subst (λ (bags : List Bag). HasItsWidth (bag_at bags place)) (sym stays_more) (more_fit place gives later);
+      alike = λ place gives later. subst (λ (bags : List Bag). Alike (bag_at (stays ++ made ∷ []) place) (bag_at bags place)) (sym (bags_of-more files before node)) (more_alike place gives later);
+      fit = more_fit;
     }

@@ -1,9 +1,10 @@
 -- The rows of nodes as they are found, beside the bags of the definition.
-use Rattle.std.specs.Prelude.{◌≡◌, ◌≢◌, ℕ, ◌≤◌, ◌<◌, Bool, true, false, List, length, map, get_or, slice_get, All, IsTrue, Option, Some, None}
+use Rattle.std.specs.Prelude.{◌≡◌, ◌≢◌, ℕ, ◌≤◌, ◌<◌, Bool, true, false, List, [], ◌∷◌, length, map, get_or, slice_get, All, IsTrue, Option, Some, None}
 use Rattle.std.specs.List.{flat_map}
 use Rattle.std.specs.Option.{option_map_or}
 use Rattle.row_core.specs.Bags.{SameBag}
 use Rattle.row_core.specs.declared.value.Value.{Value}
+use Rattle.op_unary.specs.Applied.{is_row_wise}
 use Rattle.plan_model.specs.Checks.{is_sink, takes, columns_fit, widths_agree}
 use Rattle.plan_model.specs.Plans.{Bag, bag_at}
 use Rattle.plan_model.specs.Tables.{table_rows}
@@ -43,6 +44,32 @@ pub record LosesBoth (first second : ℕ) (nodes left : List NodeRows) : Type 0 
 pub record Keeps (place : ℕ) (last : List ℕ) (nodes left : List NodeRows) : Type 0 where
   pub widths : map (λ bag. bag.width) (map as_bag left) ≡ map (λ bag. bag.width) (map as_bag nodes)
   pub others : (other : ℕ) → place < get_or last other 0 → bag_at (map as_bag left) other ≡ bag_at (map as_bag nodes) other
+
+-- an operator that goes row by row, and finds its columns in each of these rows
+pub record GoesByFile (op : Op) (rows : List (List Value)) : Type 0 where
+  pub row_wise : IsTrue (is_row_wise op)
+  pub columns : All (λ row. IsTrue (columns_fit op (length row ∷ []))) rows
+
+-- the rows that an operator is yet to give, where there is one, in place of the node's own
+abbrev pub with_chain : Option (List (List Value)) → Bag → Bag
+with_chain None bag = bag
+with_chain (Some rows) bag = record { width = bag.width; rows = rows }
+
+-- the bags of the nodes, some of which are yet to be given
+abbrev pub bags_found : List NodeRows → List (Option (List (List Value))) → List Bag
+bags_found [] chains = []
+bags_found (node ∷ nodes) [] = as_bag node ∷ bags_found nodes []
+bags_found (node ∷ nodes) (chain ∷ chains) = with_chain chain (as_bag node) ∷ bags_found nodes chains
+
+-- equal bags in each place
+pub record AreAlike (bags others : List Bag) : Type 0 where
+  pub widths : map (λ bag. bag.width) others ≡ map (λ bag. bag.width) bags
+  pub rows : (place : ℕ) → SameBag (bag_at others place).rows (bag_at bags place).rows
+
+-- all widths stay, and the bag of each node that one behind this place takes
+pub record KeepsBags (place : ℕ) (last : List ℕ) (bags left : List Bag) : Type 0 where
+  pub widths : map (λ bag. bag.width) left ≡ map (λ bag. bag.width) bags
+  pub others : (other : ℕ) → place < get_or last other 0 → SameBag (bag_at left other).rows (bag_at bags other).rows
 
 -- the bags of these inputs
 abbrev pub inputs_in : List NodeRows → List ℕ → List Bag

@@ -3,7 +3,8 @@ ghost use Rattle.plan_model.specs.Plans.{committed_text};
 ghost use Rattle.plan_eval.specs.Tables.{files_of};
 
 use crate::TableRows;
-use crate::evaluation::evaluate;
+use crate::found::Found;
+use crate::making::make_node;
 use crate::takers::last_takers;
 use plan_model::GoodPlan;
 use row_core::{Bytes, NoMemory};
@@ -17,13 +18,13 @@ pub fn answer(alloc: Global, plan: &GoodPlan, tables: &TableRows) -> Result<Byte
 {
     let nodes = plan.nodes();
     let last = last_takers(alloc, nodes)?;
-    let mut done = Vec::with_capacity(alloc, nodes.len())?;
+    let mut found = Found::with_capacity(alloc, nodes.len())?;
     let mut text = Bytes::new(alloc);
     for node in nodes {
-        let place = done.len();
+        let place = found.done.len();
         let last = last.as_slice();
-        let rows = evaluate(alloc, tables, node, place, last, &mut done, &mut text)?;
-        done.push(rows)?;
+        let made = make_node(alloc, tables, node, place, last, &mut found, &mut text)?;
+        found.push(made.node, made.chain)?;
     }
     Ok(text)
 }

@@ -1,6 +1,6 @@
 ghost use Rattle.std.specs.Prelude.{◌≡◌, ◌<◌, ◌∷◌, [], IfOk, OnOk, IsTrue, length, map};
 ghost use Rattle.row_core.specs.Bags.{SameBag};
-ghost use Rattle.op_unary.specs.Applied.{applied, is_row_wise};
+ghost use Rattle.op_unary.specs.Applied.{applied};
 ghost use Rattle.plan_model.specs.Plans.{bag_at};
 ghost use Rattle.plan_eval.specs.Evaluated.{IsGood, Keeps, LosesOnly, as_bag, takes_one};
 
@@ -51,7 +51,7 @@ fn apply_kept(
     apply(alloc, op, rows_of(done.as_slice(), input))
 }
 
-// The node's rows go. Where they are unread, an operator that goes row by row takes them file by file.
+// The node's rows go.
 fn apply_taken(
     alloc: Global,
     op: &Op,
@@ -64,21 +64,7 @@ fn apply_taken(
     ensures rows { IfOk result (λ rows. SameBag rows (applied op.now (bag_at (map as_bag done.old.items) input).rows)) }
     ensures kept { OnOk result (LosesOnly input done.old.items done.new.items) }
 {
-    if goes_row_by_row(op)
-        && let Some(unread) = &done[input as usize].unread
-    {
-        return unread.applied(alloc, op);
-    }
     read_node(alloc, input, done)?;
     let rows = take_node(alloc, input, done);
     apply_owned(alloc, op, rows)
-}
-
-fn goes_row_by_row(op: &Op) -> bool
-    ensures { result ≡ is_row_wise op.now }
-{
-    matches!(
-        op,
-        Op::Filter { .. } | Op::Project { .. } | Op::Explode { .. } | Op::Union
-    )
 }

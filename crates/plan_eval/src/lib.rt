@@ -4,11 +4,14 @@
 
 mod answering;
 mod applying;
+mod chain;
 mod done;
 mod evaluation;
 mod files;
+mod found;
 mod gathering;
 mod laws;
+mod making;
 mod node_rows;
 mod reading;
 mod sections;

@@ -16,6 +16,26 @@ pub struct NodeRows<'a> {
 }
 
 impl<'a> NodeRows<'a> {
+    /// A node without rows.
+    pub fn empty(alloc: Global, width: u32) -> Self
+        ensures { result.width ≡ width }
+    {
+        NodeRows {
+            width,
+            unread: None,
+            rows: Rows::new(alloc),
+        }
+    }
+
+    /// Has these rows from now on.
+    pub fn give(&mut self, rows: Rows)
+        ensures rows { (as_bag self.new).rows ≡ rows }
+        ensures width { self.new.width ≡ self.old.width }
+    {
+        self.unread = None;
+        self.rows = rows;
+    }
+
     /// Reads the rows, where they are unread.
     pub fn read(&mut self, alloc: Global) -> Result<(), NoMemory>
         ensures bag { OnOk result (as_bag self.new ≡ as_bag self.old) }

@@ -3,10 +3,11 @@ ghost use Rattle.std.specs.List.{flat_map};
 ghost use Rattle.row_core.specs.Bags.{SameBag};
 ghost use Rattle.op_unary.specs.Applied.{applied, is_row_wise};
 ghost use Rattle.plan_model.specs.Checks.{columns_fit};
+ghost use Rattle.plan_model.specs.Sinks.{sorted_lines};
 ghost use Rattle.plan_model.specs.Tables.{table_rows};
 
 use bag_laws::concatenations;
-use csv_tables::read_table;
+use csv_tables::{SinkLines, read_table};
 use op_unary::{apply_owned, rows_go_alone};
 use plan_model::{Column, Kind, Kinds, Op};
 use row_core::{Bytes, NoMemory, Row, Rows};
@@ -50,6 +51,29 @@ pub fn apply_by_file(
         append(&mut rows, apply_owned(alloc, op, read)?)?;
     }
     Ok(Rows::from_vec(rows))
+}
+
+/// The text of a sink that takes what `apply_by_file` gives: of each file's rows their lines alone
+/// stay, and the rows are let go before the next file is read.
+pub fn text_by_file(
+    alloc: Global,
+    op: &Op,
+    files: &[Bytes],
+    kinds: &Kinds,
+) -> Result<Bytes, NoMemory>
+    requires row_wise { IsTrue (is_row_wise op.now) }
+    requires columns { All (λ row. IsTrue (columns_fit op.now (length row ∷ []))) (flat_map (table_rows kinds.now) files.now) }
+    ensures { IfOk result (λ text. text ≡ sorted_lines (applied op.now (flat_map (table_rows kinds.now) files.now))) }
+{
+    rows_go_alone();
+    concatenations();
+    let mut lines = SinkLines::new(alloc);
+    for file in files {
+        let read = read_table(alloc, file, kinds)?;
+        let rows = apply_owned(alloc, op, read)?;
+        lines = lines.with_rows(&rows)?;
+    }
+    lines.into_sorted_text(alloc)
 }
 
 fn append(rows: &mut Vec<Row>, more: Rows) -> Result<(), NoMemory>

@@ -1,16 +1,13 @@
-ghost use Rattle.std.specs.Prelude.{◌≡◌, ◌∷◌, [], All, IfOk, IsTrue, length, map};
+ghost use Rattle.std.specs.Prelude.{◌≡◌, IfOk, map};
 ghost use Rattle.std.specs.List.{flat_map};
-ghost use Rattle.row_core.specs.Bags.{SameBag};
-ghost use Rattle.op_unary.specs.Applied.{applied, is_row_wise};
-ghost use Rattle.plan_model.specs.Checks.{columns_fit};
 ghost use Rattle.plan_model.specs.Tables.{table_rows};
 ghost use Rattle.plan_eval.specs.Evaluated.{rows_unread};
 ghost use Rattle.plan_eval.specs.Tables.{files_of};
 
 use crate::TableRows;
-use crate::reading::{apply_by_file, kinds_of, read_files};
+use crate::reading::{kinds_of, read_files};
 use crate::table_rows::files_in;
-use plan_model::{Kinds, Op, Schema};
+use plan_model::{Kinds, Schema};
 use row_core::{Bytes, NoMemory, Rows};
 use std::alloc::Global;
 
@@ -48,12 +45,14 @@ impl<'a> Unread<'a> {
         read_files(alloc, self.files, &self.kinds)
     }
 
-    /// What an operator that goes row by row gives on the rows. One file's rows stand in memory at a time.
-    pub fn applied(&self, alloc: Global, op: &Op) -> Result<Rows, NoMemory>
-        requires row_wise { IsTrue (is_row_wise op.now) }
-        requires columns { All (λ row. IsTrue (columns_fit op.now (length row ∷ []))) (rows_unread self.now) }
-        ensures { IfOk result (λ rows. SameBag rows (applied op.now (rows_unread self.now))) }
+    /// The same rows, of which nothing is read either.
+    pub fn copy(&self, alloc: Global) -> Result<Unread<'a>, NoMemory>
+        ensures { IfOk result (λ copied. rows_unread copied ≡ rows_unread self.now) }
     {
-        apply_by_file(alloc, op, self.files, &self.kinds)
+        let kinds = Kinds::from_vec(self.kinds.as_slice().to_vec(alloc)?);
+        Ok(Unread {
+            files: self.files,
+            kinds,
+        })
     }
 }

@@ -1,15 +1,16 @@
-use Rattle.std.proofs.Common.{◌≡◌, ℕ, ◌+◌, ◌<◌, List, [], ◌∷◌, ◌++◌, length, take, slice_get, slice_index_or, sym, ap, subst, ◌∙◌}
+use Rattle.std.proofs.Common.{◌≡◌, ℕ, ◌+◌, ◌<◌, List, [], ◌∷◌, ◌++◌, length, map, take, get_or, arith, slice_get, slice_index_or, sym, ap, subst, ◌∙◌}
 use Rattle.std.proofs.lemmas.List.{take_more, take_all}
 use Rattle.plan_model.specs.Checks.{node_kinds}
-use Rattle.plan_model.specs.Plans.{bag_at, committed_text, sink_section}
+use Rattle.plan_model.specs.Plans.{Bag, bag_at, committed_text, sink_section}
 use Rattle.plan_model.specs.declared.node.Node.{Node}
 use Rattle.plan_model.specs.declared.plan_kind.PlanKind.{PlanKind}
 use Rattle.plan_model.proofs.Told.{told-next}
-use Rattle.plan_eval.specs.Evaluated.{Keeps, inputs_in}
+use Rattle.plan_eval.specs.Evaluated.{KeepsBags, as_bag, bags_found, with_chain}
 use Rattle.plan_eval.specs.Tables.{files_of}
 use Rattle.plan_eval.specs.declared.node_rows.NodeRows.{NodeRows}
+use Rattle.plan_eval.proofs.Chains.{chain_width, found_long}
 use Rattle.plan_eval.proofs.Sound.{IsSound, sound_here, none_here, none_told}
-use Rattle.plan_eval.proofs.Steps.{IsEvaluated, earlier, good, text_more, one_more, none_evaluated, long_done}
+use Rattle.plan_eval.proofs.Steps.{IsEvaluated, earlier, good, text_more, one_more, none_evaluated, long_found}
 use Rattle.plan_eval.proofs.Taken.{taken_here}
 use Rattle.std.specs.Global.{Vec}
 use Rattle.std.specs.Prelude.{vec_len}
@@ -18,23 +19,27 @@ use Rattle.plan_eval.proofs.answering.answer.Goals as goal
 one_taken : (nodes : List Node) (k : ℕ) (node : Node) → k < length nodes → node ≡ slice_index_or nodes k node → take (k + 1) nodes ≡ take k nodes ++ node ∷ []
 one_taken nodes k node lt is = take_more nodes k node lt ∙ ap (λ (n : Node). take k nodes ++ n ∷ []) (sym is)
 
-pub evaluate-requires-clause-earlier : goal.evaluate-requires-clause-earlier
-evaluate-requires-clause-earlier c =
+pub make_node-requires-clause-earlier : goal.make_node-requires-clause-earlier
+make_node-requires-clause-earlier c =
     let nodes = c.nodes-nodes.result.now in
     let k = c.loop-node.node-index in
     let node = c.node-item.result in
+    let found = c.loop-node.found in
     let sound : IsSound (take k nodes) node = sound_here nodes k node c.loop-node-test.true c.node-item.is c.loop-node.invariant.told in
     let taken = taken_here nodes c.in_ok-last.last.items k node c.in_ok-last.ensures c.loop-node-test.true c.node-item.is sound in
-    earlier (files_of c.args.tables.now) c.in_ok-last.last.items (take k nodes) c.loop-node.done.items c.loop-node.invariant.evaluated node sound taken
+    let long = found_long found.done.items found.chains.items in
+    let within = earlier (files_of c.args.tables.now) c.in_ok-last.last.items (take k nodes) (bags_found found.done.items found.chains.items) c.loop-node.invariant.evaluated node sound taken in
+    (λ i d lt. let inside = within i d lt in omega (arith, inside, long))
 
-pub evaluate-requires-clause-good : goal.evaluate-requires-clause-good
-evaluate-requires-clause-good c =
+pub make_node-requires-clause-good : goal.make_node-requires-clause-good
+make_node-requires-clause-good c =
     let nodes = c.nodes-nodes.result.now in
     let k = c.loop-node.node-index in
     let node = c.node-item.result in
+    let found = c.loop-node.found in
     let sound : IsSound (take k nodes) node = sound_here nodes k node c.loop-node-test.true c.node-item.is c.loop-node.invariant.told in
     let taken = taken_here nodes c.in_ok-last.last.items k node c.in_ok-last.ensures c.loop-node-test.true c.node-item.is sound in
-    good (files_of c.args.tables.now) c.in_ok-last.last.items (take k nodes) c.loop-node.done.items c.loop-node.invariant.evaluated node sound taken
+    good (files_of c.args.tables.now) c.in_ok-last.last.items (take k nodes) (bags_found found.done.items found.chains.items) c.loop-node.invariant.evaluated node sound taken
 
 pub loop-node-preserved : goal.loop-node-preserved
 loop-node-preserved c =
@@ -44,27 +49,32 @@ loop-node-preserved c =
     let before = take k nodes in
     let node = c.node-item.result in
     let last = c.in_ok-last.last.items in
-    let done = c.loop-node.done.items in
-    let left = c.evaluate.new.done.items in
+    let found = c.loop-node.found in
+    let bags = bags_found found.done.items found.chains.items in
+    let left = c.make_node.new.found in
+    let stays = bags_found left.done.items left.chains.items in
     let lt = c.loop-node-test.true in
     let so_far = c.loop-node.invariant.evaluated in
     let sound : IsSound before node = sound_here nodes k node lt c.node-item.is c.loop-node.invariant.told in
     let taken = taken_here nodes last k node c.in_ok-last.ensures lt c.node-item.is sound in
     let more : take (k + 1) nodes ≡ before ++ node ∷ [] = one_taken nodes k node lt c.node-item.is in
-    let made = c.in_ok-rows.rows in
-    let place : c.len-place.result ≡ length before = c.len-place.ensures ∙ done_long c.loop-node.done ∙ long_done files last before done so_far in
-    let kept : Keeps (length before) last done left =
-    subst (λ (l : List ℕ). Keeps (length before) l done left) c.as_slice-last.ensures.value
-    (subst (λ (n : ℕ). Keeps n c.as_slice-last.result.now done left) place c.in_ok-rows.ensures.kept) in
+    let made = c.in_ok-made.made in
+    let bag = with_chain made.chain (as_bag made.node) in
+    let place : c.len-place.result ≡ length before =
+    c.len-place.ensures ∙ done_long found.done ∙ sym (found_long found.done.items found.chains.items) ∙ long_found files last before bags so_far in
+    let kept : KeepsBags (length before) last bags stays =
+    subst (λ (l : List ℕ). KeepsBags (length before) l bags stays) c.as_slice-last.ensures.value
+    (subst (λ (n : ℕ). KeepsBags n c.as_slice-last.result.now bags stays) place c.in_ok-made.ensures.kept) in
     record {
       told = told-next node_kinds nodes k node lt c.node-item.is
           (ap (λ (kinds : List PlanKind). slice_get kinds 0) (none_here nodes k node lt c.node-item.is c.loop-node.invariant.told)) ∙ c.loop-node.invariant.told;
-      evaluated = subst (λ (nodes : List Node). IsEvaluated files last nodes c.push.new.self.items) (sym more)
-          (subst (λ (done : List NodeRows). IsEvaluated files last (before ++ node ∷ []) done) (sym c.in_ok-push.ensures.items)
-          (one_more files last before done so_far node sound taken made c.in_ok-rows.ensures.width c.in_ok-rows.ensures.rows left kept));
-      written = c.in_ok-rows.ensures.text
-          ∙ (λ i. c.loop-node.invariant.written i ++ sink_section node.op (bag_at (inputs_in done node.inputs) 0))
-          ∙ sym (text_more files last before done so_far node sound taken)
+      evaluated = subst (λ (nodes : List Node). IsEvaluated files last nodes (bags_found c.push.new.self.done.items c.push.new.self.chains.items)) (sym more)
+          (subst (λ (bags : List Bag). IsEvaluated files last (before ++ node ∷ []) bags) (sym c.in_ok-push.ensures.bags)
+          (one_more files last before bags so_far node sound taken bag (chain_width made.chain (as_bag made.node) ∙ c.in_ok-made.ensures.width) c.in_ok-made.ensures.rows stays kept));
+      long = c.in_ok-push.ensures.long;
+      written = c.in_ok-made.ensures.text
+          ∙ (λ i. c.loop-node.invariant.written i ++ sink_section node.op (bag_at (map (bag_at bags) node.inputs) 0))
+          ∙ sym (text_more files last before bags so_far node sound taken)
           ∙ ap (committed_text files) (sym more);
     }
   where
@@ -74,8 +84,9 @@ loop-node-preserved c =
 pub loop-node-init : goal.loop-node-init
 loop-node-init c = record {
   told = none_told c.nodes-nodes.result.now c.nodes-nodes.ensures.faultless;
-  evaluated = subst (λ (done : List NodeRows). IsEvaluated (files_of c.args.tables.now) c.in_ok-last.last.items [] done) (sym c.in_ok-done.ensures.items)
+  evaluated = subst (λ (bags : List Bag). IsEvaluated (files_of c.args.tables.now) c.in_ok-last.last.items [] bags) (sym c.in_ok-found.ensures.none)
       (none_evaluated (files_of c.args.tables.now) c.in_ok-last.last.items);
+  long = c.in_ok-found.ensures.long;
   written = c.new-text.ensures;
 }
 

@@ -4,16 +4,7 @@ use Rattle.plan_model.specs.Checks.{columns_fit}
 use Rattle.plan_model.specs.Plans.{Bag, bag_at}
 use Rattle.plan_eval.specs.Evaluated.{as_bag}
 use Rattle.plan_eval.proofs.Operated.{columns_given}
-use Rattle.plan_eval.proofs.Slots.{unread_at}
 use Rattle.plan_eval.proofs.applying.apply_taken.Goals as goal
-
-pub applied-requires-clause-columns : goal.applied-requires-clause-columns
-applied-requires-clause-columns c =
-    let nodes = c.args.done.now.items in
-    let bag = bag_at (map as_bag nodes) c.args.input in
-    subst (λ (rows : List Row). All (λ row. IsTrue (columns_fit c.args.op.now (length row ∷ []))) rows)
-    (unread_at nodes c.args.input c.index.result.now c.in-Some.unread c.requires.within c.index.ensures c.in-Some.is)
-    (columns_given (bag ∷ []) c.args.op.now c.requires.one c.requires.good)
 
 pub apply_owned-requires-clause-columns : goal.apply_owned-requires-clause-columns
 apply_owned-requires-clause-columns c =
