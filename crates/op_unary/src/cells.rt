@@ -46,31 +46,9 @@ pub fn copied(alloc: Global, value: Option<&Value>) -> Result<Value, NoMemory>
     }
 }
 
-/// The rows without a copy of their values.
-pub fn borrowed<'a>(alloc: Global, rows: &'a [Row]) -> Result<Vec<&'a Row>, NoMemory>
-    ensures { IfOk result (λ all. map (λ row. row.now) all.items ≡ rows.now) }
-{
-    let mut all = Vec::with_capacity(alloc, rows.len())?;
-    for row in rows {
-        all.push(row)?;
-    }
-    Ok(all)
-}
-
 /// A copy of the rows.
 pub fn copies(alloc: Global, rows: &[Row]) -> Result<Rows, NoMemory>
     ensures { IfOk result (λ copies. copies ≡ rows.now) }
-{
-    let mut copies = Rows::new(alloc);
-    for row in rows {
-        copies.push(row.copy(alloc)?)?;
-    }
-    Ok(copies)
-}
-
-/// A copy of the rows that are pointed to.
-pub fn copies_of(alloc: Global, rows: &[&Row]) -> Result<Rows, NoMemory>
-    ensures { IfOk result (λ copies. copies ≡ map (λ row. row.now) rows.now) }
 {
     let mut copies = Rows::new(alloc);
     for row in rows {

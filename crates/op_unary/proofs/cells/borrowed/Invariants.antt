@@ -1,5 +1,0 @@
-use Rattle.std.proofs.Common.{◌≡◌, map, take}
-use Rattle.op_unary.proofs.cells.borrowed.Given as goal
-
-abbrev pub invariant-loop-row : goal.invariant-loop-row
-invariant-loop-row l = map (λ row. row.now) l.all.items ≡ take l.row-index l.rows
