@@ -1,6 +1,7 @@
 pub mod Orders
 pub mod Sames
 pub mod ByHash
+pub mod Deduped
 pub mod Firsts
 pub mod Marks
 pub mod Runs

@@ -38,7 +38,7 @@ fn firsts(alloc: Global, rows: &[Row]) -> Result<Vec<Placed>, NoMemory>
 {
     let mut all = placed(alloc, rows)?;
     all.sort_unstable_by(|a, b| cmp_placed(rows, a, b));
-    all.dedup_by(|a, b| cmp_at(rows, a.place, b.place).is_eq());
+    all.dedup_by(|a, b| a.hash == b.hash && cmp_at(rows, a.place, b.place).is_eq());
     Ok(all)
 }
 
