@@ -8,5 +8,6 @@ pub mod Runs
 pub mod Pieces
 pub mod Sums
 pub mod Owed
+pub mod Parts
 pub mod Matched
 pub mod Rests

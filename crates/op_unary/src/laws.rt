@@ -29,6 +29,15 @@ pub fn groups_go_by_keys()
     ensures aggregate { (keys : List ℕ) (aggs : List OneAgg) → IsKeyed (λ a b. same_row (key_of keys a) (key_of keys b)) (aggregated keys aggs) }
 {}
 
+/// One of each of two parts goes by one of each of the first, so rows of it that came before may be let go, and by the
+/// bag of the second.
+pub fn distinct_goes_by_parts()
+    ensures first { (rows others more : List OneRow) → SameBag (one_of_each rows) (one_of_each others)
+        → SameBag (one_of_each (rows ++ more)) (one_of_each (others ++ more)) }
+    ensures second { (rows more further : List OneRow) → SameBag more further
+        → SameBag (one_of_each (rows ++ more)) (one_of_each (rows ++ further)) }
+{}
+
 /// The rows of a plan's node are what its operator gives on the rows of its inputs, one input after the other.
 pub fn nodes_apply()
     ensures { (files : List ℕ → List (List ℕ)) (op : OneOp) (inputs : List Bag) → IsTrue (is_unary op) → IsTrue (takes op (length inputs))

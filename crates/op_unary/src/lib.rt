@@ -4,6 +4,7 @@
 
 mod aggregating;
 mod cells;
+mod distinct_rows;
 mod each_once;
 mod exploding;
 mod filtering;
@@ -18,5 +19,8 @@ mod telling;
 #[cfg(test)]
 mod tests;
 
-pub use laws::{bags_are_kept, groups_go_by_keys, nodes_apply, rows_go_alone};
+pub use distinct_rows::DistinctRows;
+pub use laws::{
+    bags_are_kept, distinct_goes_by_parts, groups_go_by_keys, nodes_apply, rows_go_alone,
+};
 pub use operators::{apply, apply_owned};

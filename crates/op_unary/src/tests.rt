@@ -2,7 +2,7 @@ ghost use Rattle.std.specs.Prelude.{◌∷◌, [], All, IsTrue, length};
 ghost use Rattle.plan_model.specs.Checks.{columns_fit};
 ghost use Rattle.op_unary.specs.Applied.{is_unary};
 
-use crate::{apply, apply_owned};
+use crate::{DistinctRows, apply, apply_owned};
 use plan_model::{Agg, Aggs, Exprs, Op};
 use row_core::{Bytes, Cmp, Columns, Expr, NoMemory, Pred, Row, Rows, Value};
 use std::alloc::Global;
@@ -104,6 +104,23 @@ fn check(rt: &impl Abort, alloc: Global, op: &Op, cases: &[(&str, &str)]) -> Res
     Ok(())
 }
 
+// One of each of rows that come in these parts.
+fn check_parts(
+    rt: &impl Abort,
+    alloc: Global,
+    parts: &[&str],
+    wanted: &str,
+) -> Result<(), NoMemory> {
+    let mut distinct = DistinctRows::new(alloc);
+    for part in parts {
+        distinct = distinct.with_rows(alloc, read_rows(alloc, part)?)?;
+    }
+    let rows = distinct.into_rows(alloc)?;
+    let shown = show(alloc, &rows)?;
+    assert_eq!(rt; shown.as_slice(), wanted.as_bytes());
+    Ok(())
+}
+
 #[test]
 fn filter_keeps_what_is_true(rt: HostRuntime) -> Result<(), Fail> {
     let op = Op::Filter {
@@ -175,6 +192,26 @@ fn distinct_gives_one_of_each(rt: HostRuntime) -> Result<(), Fail> {
         ("", ""),
     ];
     check(&rt, rt.alloc(), &Op::Distinct, &cases)?;
+    Ok(())
+}
+
+#[test]
+fn distinct_rows_come_part_by_part(rt: HostRuntime) -> Result<(), Fail> {
+    let alloc = rt.alloc();
+    check_parts(
+        &rt,
+        alloc,
+        &["a;b;a;c;", "b;d;", "", "d;a;e;"],
+        "a;b;c;d;e;",
+    )?;
+    check_parts(
+        &rt,
+        alloc,
+        &["#1 a;", "#1 a;#2 ?;", "#2 ?;#2 ?;"],
+        "#1 a;#2 ?;",
+    )?;
+    check_parts(&rt, alloc, &["", "b;b;b;", "b;"], "b;")?;
+    check_parts(&rt, alloc, &[], "")?;
     Ok(())
 }
 

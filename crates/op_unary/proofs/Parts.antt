@@ -1,0 +1,80 @@
+-- One of each of rows that come part by part.
+use Rattle.std.proofs.Common.{◌≡◌, ℕ, ◌+◌, ◌≤◌, min, Bool, true, false, List, [], ◌∷◌, ◌++◌, length, refl, sym, ◌∙◌, ap, arith}
+use Rattle.std.specs.Prelude.{cond, not, filter}
+use Rattle.row_core.specs.Bags.{SameBag, count_of, one_of_each}
+use Rattle.row_core.specs.Values.{same_row}
+use Rattle.bag_laws.specs.Rows.{OneRow as Row}
+use Rattle.bag_laws.proofs.Alike.{same_refl}
+use Rattle.bag_laws.proofs.Counts.{count-append, count-one_of_each, total-same, SameBag-append, SameBag-one_of_each}
+use Rattle.bag_laws.proofs.Totals.{total}
+
+-- one of each of two parts goes by one of each of the first
+pub by_first : (rows others more : List Row) → SameBag (one_of_each rows) (one_of_each others) → SameBag (one_of_each (rows ++ more)) (one_of_each (others ++ more))
+by_first rows others more same = record {
+  counts = λ row.
+      count-one_of_each row (rows ++ more)
+      ∙ ap (min 1) (count-append row rows more)
+      ∙ beside (count_of row rows) (count_of row others) (count_of row more) (sym (count-one_of_each row rows) ∙ same.counts row ∙ count-one_of_each row others)
+      ∙ ap (min 1) (sym (count-append row others more))
+      ∙ sym (count-one_of_each row (others ++ more));
+}
+  where
+    beside : (n m k : ℕ) → min 1 n ≡ min 1 m → min 1 (n + k) ≡ min 1 (m + k)
+    beside n m k e = omega (arith, e)
+
+-- and by the bag of the second
+pub by_second : (rows more further : List Row) → SameBag more further → SameBag (one_of_each (rows ++ more)) (one_of_each (rows ++ further))
+by_second rows more further same = SameBag-one_of_each (rows ++ more) (rows ++ further) (SameBag-append rows more rows further (same_refl rows) same)
+
+-- one of each of one of each is that
+pub again : (kept rows : List Row) → SameBag kept (one_of_each rows) → SameBag (one_of_each kept) (one_of_each rows)
+again kept rows same = record {
+  counts = λ row.
+      count-one_of_each row kept
+      ∙ ap (min 1) (same.counts row ∙ count-one_of_each row rows)
+      ∙ twice (count_of row rows)
+      ∙ sym (count-one_of_each row rows);
+}
+  where
+    twice : (n : ℕ) → min 1 (min 1 n) ≡ min 1 n
+    twice n = omega arith
+
+-- ---- how many they are
+
+one_each : (xs : List Row) → total (λ x. 1) xs ≡ length xs
+one_each [] = refl
+one_each (x ∷ xs) = let rest = one_each xs in omega arith
+
+-- nothing stands twice in one of each
+pub all_distinct : (kept rows : List Row) → SameBag kept (one_of_each rows) → length kept ≤ length (one_of_each kept)
+all_distinct kept rows same =
+    let both : length kept ≡ length (one_of_each kept) =
+    sym (one_each kept) ∙ total-same (λ x. 1) kept (one_of_each rows) same
+    ∙ sym (total-same (λ x. 1) (one_of_each kept) (one_of_each rows) (again kept rows same)) ∙ one_each (one_of_each kept) in
+    omega arith
+
+total-filter : (w : Row → ℕ) (p : Row → Bool) (xs : List Row) → total w (filter p xs) ≡ total (λ x. cond (p x) (w x) 0) xs
+total-filter w p [] = refl
+total-filter w p (x ∷ xs) = by (p x) (total-filter w p xs)
+  where
+    by : (b : Bool) → total w (filter p xs) ≡ total (λ x. cond (p x) (w x) 0) xs
+        → total w (cond b (x ∷ filter p xs) (filter p xs)) ≡ cond b (w x) 0 + total (λ x. cond (p x) (w x) 0) xs
+    by true e = omega (arith, e)
+    by false e = omega (arith, e)
+
+no_lighter : (w : Row → ℕ) (rows more : List Row) → total w (one_of_each rows) ≤ total w (one_of_each (rows ++ more))
+no_lighter w [] more = omega arith
+no_lighter w (x ∷ xs) more =
+    let p : Row → Bool = λ other. not (same_row x other) in
+    let less = no_lighter (λ y. cond (p y) (w y) 0) xs more in
+    let here = total-filter w p (one_of_each xs) in
+    let there = total-filter w p (one_of_each (xs ++ more)) in
+    omega (arith, less, here, there)
+
+-- further rows take none away
+pub no_fewer : (rows more : List Row) → length (one_of_each rows) ≤ length (one_of_each (rows ++ more))
+no_fewer rows more =
+    let less = no_lighter (λ x. 1) rows more in
+    let here = one_each (one_of_each rows) in
+    let there = one_each (one_of_each (rows ++ more)) in
+    omega (arith, less, here, there)
