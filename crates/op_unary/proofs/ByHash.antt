@@ -1,5 +1,5 @@
 -- Rows in the order of their hashes, and of their values where hashes are equal.
-use Rattle.std.proofs.Common.{◌≡◌, ◌+◌, ℕ, List, All, get_or, sym, subst, ◌∙◌, arith}
+use Rattle.std.proofs.Common.{◌≡◌, ◌+◌, ℕ, List, All, get_or, nat_eq, eqb-true, sym, subst, ap, ◌∙◌, arith}
 use Rattle.std.proofs.lemmas.Cmp.{on_total, then_total}
 use Rattle.std.specs.Prelude.{Bool, false}
 use Rattle.std.specs.Cmp.{IsTotalOrder, nat_cmp_total}
@@ -11,14 +11,14 @@ use Rattle.std.specs.declared.cmp.Ordering.{Ordering}
 use Rattle.std.specs.declared.cmp.Ordering.TheVariants.{Less, Equal, Greater}
 use Rattle.row_core.specs.Values.{row_cmp, same_row}
 use Rattle.bag_laws.specs.Rows.{OneRow as Row}
-use Rattle.bag_laws.proofs.Sorted.{IsStrict}
+use Rattle.bag_laws.proofs.Sorted.{IsStrict, false_from}
 use Rattle.bag_laws.proofs.Orders.{rows_strict, same_row_is, strict_from, value_apart, value_total}
 use Rattle.op_unary.specs.Hashes.{hash_cmp, hash_of}
 
 abbrev pub hash_less : Row → Row → Bool
 hash_less a b = is_lt (hash_cmp a b)
 
-hash_total : IsTotalOrder hash_cmp
+pub hash_total : IsTotalOrder hash_cmp
 hash_total = then_total (on_total hash_of nat_cmp_total) (lists_total value_total)
 
 second : (r s : Ordering) → ordering_then r s ≡ Equal → s ≡ Equal
@@ -41,6 +41,12 @@ by_itself =
 
 pub hash_strict : IsStrict {X = Row} hash_less same_row
 hash_strict = by_itself
+
+-- rows with other hashes are other rows
+pub told_apart : (a b : Row) (m n : ℕ) → m ≡ hash_of a → n ≡ hash_of b → (m ≡ n → ⊥) → nat_eq m n ≡ same_row a b
+told_apart a b m n mine theirs other =
+    false_from hash_less same_row hash_strict (nat_eq m n) (λ tie. other (eqb-true m n tie))
+    ∙ sym (false_from hash_less same_row hash_strict (same_row a b) (λ tie. other (mine ∙ ap hash_of (same_row_is a b tie) ∙ sym theirs)))
 
 module _ {X : Type 0} (hash : X → ℕ) (row : X → Row) where
   -- the order by the hashes that stand beside rows

@@ -11,3 +11,6 @@ pub mod Owed
 pub mod Parts
 pub mod Matched
 pub mod Rests
+pub mod Joins
+pub mod Told
+pub mod Neighbours

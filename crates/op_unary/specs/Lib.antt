@@ -1,3 +1,5 @@
 pub mod Applied
 pub mod Cells
 pub mod Hashes
+pub mod Partials
+pub mod Groups

@@ -31,6 +31,7 @@ pub fn cmp_keys(keys: &[u32], a: &Row, b: &Row) -> Ordering
 pub fn by_key<'a>(alloc: Global, keys: &[u32], rows: &'a [Row]) -> Result<Vec<Keyed<'a>>, NoMemory>
     ensures rows { IfOk result (λ sorted. IsPermutation rows.now (map (λ keyed. keyed.row.now) sorted.items)) }
     ensures order { IfOk result (λ sorted. IsSorted hash_cmp (map (λ keyed. key_of keys.now keyed.row.now) sorted.items)) }
+    ensures hashes { IfOk result (λ sorted. All (λ keyed. keyed.hash ≡ hash_of (key_of keys.now keyed.row.now)) sorted.items) }
 {
     let mut sorted = hashed(alloc, keys, rows)?;
     sorted.sort_unstable_by(|a, b| cmp_keyed(keys, a, b));
@@ -67,16 +68,7 @@ fn cmp_keyed(keys: &[u32], a: &Keyed, b: &Keyed) -> Ordering
 }
 
 /// How many rows at the front have the key of the first.
-pub fn run_length(keys: &[u32], rows: &[Keyed]) -> usize
-    ensures { result ≡ prefix_len (λ keyed. same_row (key_of keys.now (get_or (map (λ keyed. keyed.row.now) rows.now) 0 [])) (key_of keys.now keyed.row.now)) rows.now }
-{
-    match rows.first() {
-        Some(first) => count_run(keys, first.row, rows),
-        None => 0,
-    }
-}
-
-fn count_run(keys: &[u32], first: &Row, rows: &[Keyed]) -> usize
+pub fn run_length(keys: &[u32], first: &Row, rows: &[Keyed]) -> usize
     ensures { result ≡ prefix_len (λ keyed. same_row (key_of keys.now first.now) (key_of keys.now keyed.row.now)) rows.now }
 {
     rows.iter()

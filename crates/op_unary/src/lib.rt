@@ -4,15 +4,21 @@
 
 mod aggregating;
 mod cells;
+mod combining;
 mod distinct_rows;
 mod each_once;
 mod exploding;
 mod filtering;
+mod group;
+mod grouping;
+mod groups;
 mod hashing;
+mod joining;
 mod keyed;
 mod keys;
 mod laws;
 mod operators;
+mod partial;
 mod placed;
 mod projecting;
 mod telling;
@@ -20,6 +26,7 @@ mod telling;
 mod tests;
 
 pub use distinct_rows::DistinctRows;
+pub use groups::Groups;
 pub use laws::{
     bags_are_kept, distinct_goes_by_parts, groups_go_by_keys, nodes_apply, rows_go_alone,
 };

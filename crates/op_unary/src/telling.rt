@@ -1,45 +1,39 @@
 ghost use Rattle.std.specs.Prelude.{◌≡◌, ◌≤ℤ◌, ◌+ℤ◌, ◌^◌, [], ◌∷◌, nat_lt, map, length, pos, IfOk};
-ghost use Rattle.row_core.specs.Values.{int_value};
-ghost use Rattle.plan_model.specs.Operators.{agg_value, column_of, numbers_of, sum_value, whole_sum, least, greatest, lesser_value, greater_value};
+ghost use Rattle.plan_model.specs.Operators.{column_of, numbers_of, whole_sum, least, greatest, lesser_value, greater_value};
+ghost use Rattle.plan_model.specs.declared.agg.Agg.TheVariants.{Sum};
 ghost use Rattle.op_unary.specs.Cells.{or_null};
+ghost use Rattle.op_unary.specs.Partials.{partial_of};
 
 use crate::cells::{cell, cmp_cells, copied};
+use crate::keyed::Keyed;
+use crate::partial::Partial;
 use plan_model::Agg;
-use row_core::{NoMemory, Row, Value};
+use row_core::{NoMemory, Value};
 use std::alloc::Global;
 
 /// What an aggregate tells of these rows.
-pub fn tell(alloc: Global, agg: Agg, rows: &[&Row]) -> Result<Value, NoMemory>
-    ensures { IfOk result (λ value. value ≡ agg_value (map (λ row. row.now) rows.now) agg) }
+pub fn tell(alloc: Global, agg: Agg, rows: &[Keyed]) -> Result<Partial, NoMemory>
+    ensures { IfOk result (λ partial. partial ≡ partial_of (map (λ keyed. keyed.row.now) rows.now) agg) }
 {
     match agg {
-        Agg::Count => Ok(count(rows)),
+        Agg::Count => Ok(Partial::Counted(rows.len() as u64)),
         Agg::Sum(column) => Ok(sum(column, rows)),
-        Agg::Min(column) => copied(alloc, min(column, rows)),
-        Agg::Max(column) => copied(alloc, max(column, rows)),
+        Agg::Min(column) => Ok(Partial::Least(copied(alloc, min(column, rows))?)),
+        Agg::Max(column) => Ok(Partial::Greatest(copied(alloc, max(column, rows))?)),
     }
 }
 
-fn count(rows: &[&Row]) -> Value
-    ensures { result ≡ int_value (pos (length rows.now)) }
-{
-    match i64::try_from(rows.len()) {
-        Ok(count) => Value::Int(count),
-        Err(_) => Value::Null,
-    }
-}
-
-fn sum(column: u32, rows: &[&Row]) -> Value
-    ensures { result ≡ sum_value (numbers_of (column_of column (map (λ row. row.now) rows.now))) }
+fn sum(column: u32, rows: &[Keyed]) -> Partial
+    ensures { result ≡ partial_of (map (λ keyed. keyed.row.now) rows.now) (Sum column) }
 {
     let mut total = 0i128;
     let mut any = false;
-    for row in rows {
-        let value = cell(row, column);
+    for keyed in rows {
+        let value = cell(keyed.row, column);
         total += number(value);
         any |= is_number(value);
     }
-    if any { whole(total) } else { Value::Null }
+    Partial::Summed { any, total }
 }
 
 // The number, or 0 where the value is none.
@@ -60,32 +54,22 @@ fn is_number(value: Option<&Value>) -> bool
     matches!(value, Some(Value::Int(_)))
 }
 
-// The number, or Null where it has more than 64 bits.
-fn whole(number: i128) -> Value
-    ensures { result ≡ int_value number }
-{
-    match i64::try_from(number) {
-        Ok(number) => Value::Int(number),
-        Err(_) => Value::Null,
-    }
-}
-
-fn min<'a>(column: u32, rows: &[&'a Row]) -> Option<&'a Value>
-    ensures { or_null result ≡ least (column_of column (map (λ row. row.now) rows.now)) }
+fn min<'a>(column: u32, rows: &[Keyed<'a>]) -> Option<&'a Value>
+    ensures { or_null result ≡ least (column_of column (map (λ keyed. keyed.row.now) rows.now)) }
 {
     let mut least = None;
-    for row in rows {
-        least = lesser(least, cell(row, column));
+    for keyed in rows {
+        least = lesser(least, cell(keyed.row, column));
     }
     least
 }
 
-fn max<'a>(column: u32, rows: &[&'a Row]) -> Option<&'a Value>
-    ensures { or_null result ≡ greatest (column_of column (map (λ row. row.now) rows.now)) }
+fn max<'a>(column: u32, rows: &[Keyed<'a>]) -> Option<&'a Value>
+    ensures { or_null result ≡ greatest (column_of column (map (λ keyed. keyed.row.now) rows.now)) }
 {
     let mut greatest = None;
-    for row in rows {
-        greatest = greater(greatest, cell(row, column));
+    for keyed in rows {
+        greatest = greater(greatest, cell(keyed.row, column));
     }
     greatest
 }

@@ -3,12 +3,12 @@ use Rattle.std.specs.Prelude.{◌≤ℤ◌, ◌+ℤ◌}
 use Rattle.plan_model.specs.Operators.{column_of, numbers_of, whole_sum}
 use Rattle.op_unary.proofs.telling.sum.Given as goal
 
-abbrev pub invariant-loop-row : goal.invariant-loop-row
-invariant-loop-row l =
-    let numbers = numbers_of (column_of l.column (map (λ row. row.now) (take l.row-index l.rows))) in
+abbrev pub invariant-loop-keyed : goal.invariant-loop-keyed
+invariant-loop-keyed l =
+    let numbers = numbers_of (column_of l.column (map (λ keyed. keyed.row.now) (take l.keyed-index l.rows))) in
     record {
       total : l.total ≡ whole_sum numbers;
       any : l.any ≡ nat_lt 0 (length numbers);
-      high : l.total ≤ℤ pos (l.row-index * 2 ^ 63);
-      low : pos 0 ≤ℤ (l.total +ℤ pos (l.row-index * 2 ^ 63));
+      high : l.total ≤ℤ pos (l.keyed-index * 2 ^ 63);
+      low : pos 0 ≤ℤ (l.total +ℤ pos (l.keyed-index * 2 ^ 63));
     }

@@ -1,0 +1,50 @@
+use Rattle.std.proofs.Common.{◌≡◌, ◌++◌, ℕ, List, map, sym, subst}
+use Rattle.row_core.specs.Bags.{SameBag}
+use Rattle.bag_laws.specs.Rows.{OneRow as Row}
+use Rattle.bag_laws.proofs.Alike.{same_refl, same_sym}
+use Rattle.bag_laws.proofs.Counts.{SameBag-append}
+use Rattle.bag_laws.proofs.Permutations.{same_of_permutation}
+use Rattle.plan_model.specs.declared.agg.Agg.{Agg}
+use Rattle.op_unary.specs.Groups.{AreTold}
+use Rattle.op_unary.specs.declared.group.Group.{Group}
+use Rattle.op_unary.specs.declared.keyed.Keyed.{Keyed}
+use Rattle.op_unary.proofs.Told.{told_bag}
+use Rattle.op_unary.proofs.groups.Groups.with_part.Goals.{In_ok-groups}
+use Rattle.op_unary.proofs.groups.Groups.with_part.Goals as goal
+
+abbrev row : Keyed → Row
+row keyed = keyed.row.now
+
+-- groups of rows in another order, by keys and aggregates with another name
+told_more : (by keys : List ℕ) (tell aggs : List Agg) → by ≡ keys → tell ≡ aggs → (old new : List Group) (before rows sorted : List Row) → SameBag sorted rows
+    → ((before : List Row) → AreTold by tell old before → AreTold by tell new (before ++ sorted)) → AreTold keys aggs old before → AreTold keys aggs new (before ++ rows)
+told_more by keys tell aggs is also old new before rows sorted same more t =
+    told_bag keys aggs new (before ++ sorted) (before ++ rows)
+    (subst (λ (k : List ℕ). AreTold k aggs new (before ++ sorted)) is
+    (subst (λ (a : List Agg). AreTold by a new (before ++ sorted)) also
+    (more before (subst (λ (k : List ℕ). AreTold k tell old before) (sym is) (subst (λ (a : List Agg). AreTold keys a old before) (sym also) t)))))
+    (SameBag-append before sorted before rows (same_refl before) same)
+
+part_told : (c : In_ok-groups) (keys : List ℕ) (aggs : List Agg) (before : List Row) → c.args.self.keys.now ≡ keys → c.args.self.aggs.now ≡ aggs
+    → AreTold keys aggs c.args.self.groups.items before → AreTold keys aggs c.in_ok-groups.groups.items (before ++ c.args.rows.now)
+part_told c keys aggs before is also t =
+    let sorted = map row c.in_ok-sorted.sorted.items in
+    told_more c.args.self.keys.now keys c.args.self.aggs.now aggs is also c.args.self.groups.items c.in_ok-groups.groups.items before c.args.rows.now sorted
+    (same_sym (same_of_permutation c.args.rows.now sorted c.in_ok-sorted.ensures.rows))
+    (subst (λ (l : List Keyed). (before : List Row) → AreTold c.args.self.keys.now c.args.self.aggs.now c.args.self.groups.items before
+    → AreTold c.args.self.keys.now c.args.self.aggs.now c.in_ok-groups.groups.items (before ++ map row l)) c.as_slice.ensures.value c.in_ok-groups.ensures)
+    t
+
+pub returns-then-len-max : goal.returns-then-len-max
+returns-then-len-max c = λ keys aggs before stands. record {
+  by = stands.by;
+  tell = stands.tell;
+  told = part_told (goal.at.returns-then-len-max c).In_ok-groups keys aggs before stands.by stands.tell stands.told;
+}
+
+pub returns : goal.returns
+returns c = λ keys aggs before stands. record {
+  by = stands.by;
+  tell = stands.tell;
+  told = c.in_ok-groups-2.ensures.told keys aggs (before ++ c.args.rows.now) (part_told (goal.at.returns c).In_ok-groups keys aggs before stands.by stands.tell stands.told);
+}

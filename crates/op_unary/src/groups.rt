@@ -1,0 +1,89 @@
+ghost use Rattle.std.specs.Prelude.{[], ◌++◌, ℕ, List, IfOk};
+ghost use Rattle.row_core.specs.Bags.{SameBag};
+ghost use Rattle.bag_laws.specs.Rows.{OneRow};
+ghost use Rattle.plan_model.specs.Operators.{aggregated};
+ghost use Rattle.plan_model.specs.declared.agg.Agg.{Agg as OneAgg};
+ghost use Rattle.op_unary.specs.Groups.{StandsFor};
+
+use crate::combining::{combined, into_rows};
+use crate::group::Group;
+use crate::grouping::with_runs;
+use crate::keys::by_key;
+use plan_model::Agg;
+use row_core::{NoMemory, Row, Rows};
+use std::alloc::Global;
+
+// So few groups are not worth combining.
+const FEW: usize = 1024;
+
+/// The aggregates of rows that come part by part. The rows aren't kept: only what the aggregates have told of
+/// each key so far.
+#[derive(Drop)]
+pub struct Groups<'a> {
+    keys: &'a [u32],
+    aggs: &'a [Agg],
+    groups: Vec<Group>,
+    settled: usize,
+}
+
+impl<'a> Groups<'a> {
+    pub fn new(alloc: Global, keys: &'a [u32], aggs: &'a [Agg]) -> Self
+        ensures { StandsFor keys.now aggs.now result [] }
+    {
+        Groups {
+            keys,
+            aggs,
+            groups: Vec::new(alloc),
+            settled: 0,
+        }
+    }
+
+    /// The same with further rows. Fails for want of memory, or where the rows of one key are more than 64 bits
+    /// can count.
+    pub fn with_rows(self, alloc: Global, rows: Rows) -> Result<Self, NoMemory>
+        ensures { (keys : List ℕ) (aggs : List OneAgg) (before : List OneRow) → StandsFor keys aggs self.entry before
+            → IfOk result (λ all. StandsFor keys aggs all (before ++ rows)) }
+    {
+        self.with_part(alloc, rows.as_slice())
+    }
+
+    /// `with_rows` of rows that stay their owner's.
+    pub fn with_part(self, alloc: Global, rows: &[Row]) -> Result<Self, NoMemory>
+        ensures { (keys : List ℕ) (aggs : List OneAgg) (before : List OneRow) → StandsFor keys aggs self.entry before
+            → IfOk result (λ all. StandsFor keys aggs all (before ++ rows.now)) }
+    {
+        let Groups {
+            keys,
+            aggs,
+            groups,
+            settled,
+        } = self;
+        let sorted = by_key(alloc, keys, rows)?;
+        let groups = with_runs(alloc, keys, aggs, groups, sorted.as_slice())?;
+        if groups.len() / 2 < settled.max(FEW) {
+            return Ok(Groups {
+                keys,
+                aggs,
+                groups,
+                settled,
+            });
+        }
+        let groups = combined(alloc, groups)?;
+        let settled = groups.len();
+        Ok(Groups {
+            keys,
+            aggs,
+            groups,
+            settled,
+        })
+    }
+
+    /// One row for each key: the key, then the aggregates of its rows.
+    pub fn into_rows(self, alloc: Global) -> Result<Rows, NoMemory>
+        ensures { (keys : List ℕ) (aggs : List OneAgg) (before : List OneRow) → StandsFor keys aggs self.entry before
+            → IfOk result (λ made. SameBag made (aggregated keys aggs before)) }
+    {
+        let groups = combined(alloc, self.groups)?;
+        into_rows(alloc, groups)
+    }
+}
