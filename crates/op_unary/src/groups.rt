@@ -78,7 +78,7 @@ impl<'a> Groups<'a> {
         })
     }
 
-    /// One row for each key: the key, then the aggregates of its rows.
+    /// One row for each key: the key, then the aggregates of its rows. Fails as `with_rows` does.
     pub fn into_rows(self, alloc: Global) -> Result<Rows, NoMemory>
         ensures { (keys : List ℕ) (aggs : List OneAgg) (before : List OneRow) → StandsFor keys aggs self.entry before
             → IfOk result (λ made. SameBag made (aggregated keys aggs before)) }
