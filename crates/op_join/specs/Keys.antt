@@ -1,5 +1,7 @@
 -- Keys of rows that stand beside their key's first value.
-use Rattle.std.specs.Prelude.{◌≡◌, ℕ, List, [], ◌∷◌, All}
+use Rattle.std.specs.Prelude.{◌≡◌, ℕ, List, [], ◌∷◌, All, map}
+use Rattle.std.specs.List.Sorted.{IsPermutation, IsSorted}
+use Rattle.row_core.specs.Values.{row_cmp}
 use Rattle.row_core.specs.declared.value.Value.{Value}
 use Rattle.op_join.specs.Cells.{lead_value}
 use Rattle.op_join.specs.Sides.{own_key, other_key}
@@ -17,3 +19,9 @@ other_key_of (pair ∷ keys) keyed = lead_value keyed.lead ∷ other_key keys ke
 -- beside each row stands its key's first value
 abbrev pub AreKeyed : List (ℕ × ℕ) → List Keyed → Type 0
 AreKeyed keys others = All (λ other. other_key_of keys other ≡ other_key keys other.row.now) others
+
+-- these rows in the order of their keys
+pub record AreInOrder (keys : List (ℕ × ℕ)) (others : List (List Value)) (sorted : List Keyed) : Type 0 where
+  pub rows : IsPermutation others (map (λ other. other.row.now) sorted)
+  pub keyed : AreKeyed keys sorted
+  pub order : IsSorted row_cmp (map (other_key_of keys) sorted)

@@ -1,8 +1,10 @@
 -- What the rows of one side of a join give with their matches on the other.
-use Rattle.std.specs.Prelude.{ℕ, List, ◌++◌, map, get_or}
+use Rattle.std.specs.Prelude.{ℕ, Bool, true, false, List, ◌++◌, map, get_or}
 use Rattle.row_core.specs.declared.value.Value.{Value}
 use Rattle.row_core.specs.declared.value.Value.TheVariants.{Null}
 use Rattle.plan_model.specs.Joins.{nulls, or_padded, if_matched, if_unmatched}
+use Rattle.plan_model.specs.declared.join_kind.JoinKind.{JoinKind}
+use Rattle.plan_model.specs.declared.join_kind.JoinKind.TheVariants as kind
 use Rattle.op_join.specs.declared.rule.Rule.{Rule}
 use Rattle.op_join.specs.declared.rule.Rule.TheVariants.{Pairs, PairsOrPadded, MirroredOrPadded, PaddedIfUnmatched, RowIfMatched, RowIfUnmatched}
 
@@ -25,3 +27,12 @@ other_key keys row = map (λ pair. get_or row pair.1 Null) keys
 -- each pair turned round
 abbrev pub turned : List (ℕ × ℕ) → List (ℕ × ℕ)
 turned keys = map (λ pair. (pair.1, pair.0)) keys
+
+-- each left row gives its rows whatever the other left rows are
+abbrev pub goes_by_left : JoinKind → Bool
+goes_by_left kind.Inner = true
+goes_by_left kind.Left = true
+goes_by_left kind.Right = false
+goes_by_left kind.Full = false
+goes_by_left kind.Semi = true
+goes_by_left kind.Anti = true

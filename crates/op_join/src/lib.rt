@@ -11,10 +11,12 @@ mod lead;
 mod matching;
 mod moving;
 mod owned;
+mod right_side;
 mod rule;
 #[cfg(test)]
 mod tests;
 
 pub use joining::join;
-pub use laws::bags_are_kept;
+pub use laws::{bags_are_kept, left_rows_go_alone};
 pub use owned::join_owned;
+pub use right_side::RightSide;

@@ -30,7 +30,8 @@ pub fn move_all(
     move_sorted(alloc, rule, width, keys, rows, sorted.as_slice())
 }
 
-fn move_sorted(
+/// The same with the rows of the other side in the order of their keys.
+pub fn move_sorted(
     alloc: Global,
     rule: Rule,
     width: u32,

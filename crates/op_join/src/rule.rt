@@ -1,3 +1,11 @@
+ghost use Rattle.std.specs.Prelude.{◌≡◌, ℕ, List, filter, IsTrue};
+ghost use Rattle.std.specs.List.{flat_map};
+ghost use Rattle.bag_laws.specs.Rows.{OneRow};
+ghost use Rattle.plan_model.specs.Joins.{joined, matches};
+ghost use Rattle.op_join.specs.Sides.{given, goes_by_left};
+
+use plan_model::JoinKind;
+
 /// What a row of one side gives with its matches on the other.
 #[derive(Clone, Copy, Debug, PartialEq, Eq)]
 pub enum Rule {
@@ -13,4 +21,19 @@ pub enum Rule {
     RowIfMatched,
     /// The row where there is no match.
     RowIfUnmatched,
+}
+
+/// What each left row gives, in a join that goes by them.
+pub fn left_rule(kind: JoinKind) -> Rule
+    requires { IsTrue (goes_by_left kind) }
+    ensures { (keys : List (ℕ × ℕ)) (left_width right_width : ℕ) (left right : List OneRow)
+        → flat_map (λ row. given result right_width row (filter (matches keys row) right)) left ≡ joined keys left_width right_width left right kind }
+{
+    match kind {
+        JoinKind::Inner => Rule::Pairs,
+        JoinKind::Left => Rule::PairsOrPadded,
+        JoinKind::Semi => Rule::RowIfMatched,
+        JoinKind::Anti => Rule::RowIfUnmatched,
+        JoinKind::Right | JoinKind::Full => unreachable!(),
+    }
 }
