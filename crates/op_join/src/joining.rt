@@ -5,7 +5,7 @@ ghost use Rattle.plan_model.specs.Joins.{joined, matches};
 ghost use Rattle.op_join.specs.Sides.{given, turned};
 
 use crate::giving::give_all;
-use crate::rule::Rule;
+use crate::rule::{Rule, left_rule};
 use plan_model::{JoinKind, KeyPairs, Widths};
 use row_core::{NoMemory, Row, Rows};
 use std::alloc::Global;
@@ -26,8 +26,9 @@ pub fn join(
     let left = left.as_slice();
     let right = right.as_slice();
     match kind {
-        JoinKind::Inner => give_all(alloc, Rule::Pairs, widths.right, keys, left, right),
-        JoinKind::Left => give_all(alloc, Rule::PairsOrPadded, widths.right, keys, left, right),
+        JoinKind::Inner | JoinKind::Left | JoinKind::Semi | JoinKind::Anti => {
+            give_all(alloc, left_rule(kind), widths.right, keys, left, right)
+        }
         JoinKind::Right => give_right(
             alloc,
             Rule::MirroredOrPadded,
@@ -37,8 +38,6 @@ pub fn join(
             right,
         ),
         JoinKind::Full => give_both(alloc, widths, keys, left, right),
-        JoinKind::Semi => give_all(alloc, Rule::RowIfMatched, widths.right, keys, left, right),
-        JoinKind::Anti => give_all(alloc, Rule::RowIfUnmatched, widths.right, keys, left, right),
     }
 }
 

@@ -6,7 +6,7 @@ ghost use Rattle.op_join.specs.Sides.{given};
 
 use crate::joining::{give_right, sum, turn};
 use crate::moving::move_all;
-use crate::rule::Rule;
+use crate::rule::{Rule, left_rule};
 use plan_model::{JoinKind, KeyPairs, Widths};
 use row_core::{NoMemory, Row, Rows};
 use std::alloc::Global;
@@ -26,19 +26,11 @@ pub fn join_owned(
     let keys = keys.as_slice();
     let others = right.as_slice();
     match kind {
-        JoinKind::Inner => move_all(alloc, Rule::Pairs, widths.right, keys, left, others),
-        JoinKind::Left => move_all(alloc, Rule::PairsOrPadded, widths.right, keys, left, others),
+        JoinKind::Inner | JoinKind::Left | JoinKind::Semi | JoinKind::Anti => {
+            move_all(alloc, left_rule(kind), widths.right, keys, left, others)
+        }
         JoinKind::Right => move_right(alloc, widths.left, keys, left.as_slice(), right),
         JoinKind::Full => move_both(alloc, widths, keys, left, others),
-        JoinKind::Semi => move_all(alloc, Rule::RowIfMatched, widths.right, keys, left, others),
-        JoinKind::Anti => move_all(
-            alloc,
-            Rule::RowIfUnmatched,
-            widths.right,
-            keys,
-            left,
-            others,
-        ),
     }
 }
 

@@ -1,6 +1,7 @@
-ghost use Rattle.std.specs.Prelude.{◌<◌};
+ghost use Rattle.std.specs.Prelude.{◌<◌, IsTrue};
+ghost use Rattle.op_join.specs.Sides.{goes_by_left};
 
-use crate::{join, join_owned};
+use crate::{RightSide, join, join_owned};
 use plan_model::{JoinKind, KeyPairs, Widths};
 use row_core::{Bytes, NoMemory, Row, Rows, Value};
 use std::alloc::Global;
@@ -139,6 +140,38 @@ fn joins_give_these_rows(rt: HostRuntime) -> Result<(), Fail> {
         let shown = show(alloc, &moved)?;
         assert_eq!(rt; shown.as_slice(), wanted.as_bytes());
     }
+    Ok(())
+}
+
+// What the left rows `#1 a;#2 b;? c;#1 d;` give where they come in two parts with an empty one between.
+fn join_in_parts(alloc: Global, kind: JoinKind) -> Result<Vec<u8>, NoMemory>
+    requires { IsTrue (goes_by_left kind) }
+{
+    let keys = KeyPairs::from_vec(vec![in alloc; (0, 0)]?);
+    let widths = Widths { left: 2, right: 2 };
+    let right = read_rows(alloc, "#1 x;#3 z;#1 y;")?;
+    let side = RightSide::new(alloc, kind, &keys, widths, &right)?;
+    let mut given = Vec::new(alloc);
+    for part in ["#1 a;#2 b;", "", "? c;#1 d;"] {
+        let rows = side.join_part(alloc, read_rows(alloc, part)?)?;
+        given.append(&mut rows.into_vec())?;
+    }
+    show(alloc, &Rows::from_vec(given))
+}
+
+#[test]
+fn parts_give_what_the_whole_gives(rt: HostRuntime) -> Result<(), Fail> {
+    let alloc = rt.alloc();
+    let inner = join_in_parts(alloc, JoinKind::Inner)?;
+    let wanted = "#1 a #1 x;#1 a #1 y;#1 d #1 x;#1 d #1 y;";
+    assert_eq!(rt; inner.as_slice(), wanted.as_bytes());
+    let left = join_in_parts(alloc, JoinKind::Left)?;
+    let wanted = "#1 a #1 x;#1 a #1 y;#1 d #1 x;#1 d #1 y;#2 b ? ?;? c ? ?;";
+    assert_eq!(rt; left.as_slice(), wanted.as_bytes());
+    let semi = join_in_parts(alloc, JoinKind::Semi)?;
+    assert_eq!(rt; semi.as_slice(), b"#1 a;#1 d;".as_slice());
+    let anti = join_in_parts(alloc, JoinKind::Anti)?;
+    assert_eq!(rt; anti.as_slice(), b"#2 b;? c;".as_slice());
     Ok(())
 }
 

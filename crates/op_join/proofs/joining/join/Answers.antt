@@ -5,16 +5,6 @@ use Rattle.plan_model.specs.declared.join_kind.JoinKind.TheVariants as kind
 use Rattle.op_join.proofs.Arms.{arm}
 use Rattle.op_join.proofs.joining.join.Goals as goal
 
-pub returns-in-Inner : goal.returns-in-Inner
-returns-in-Inner c =
-    IfOk-weaker c.give_all.result (λ made. SameBag made (joined c.as_slice-keys.result.now c.args.widths.left c.args.widths.right c.as_slice-left.result.now c.as_slice-right.result.now kind.Inner)) (λ made. SameBag made (joined c.args.keys.now c.args.widths.left c.args.widths.right c.args.left.now c.args.right.now c.args.kind))
-    (arm c.args.kind kind.Inner c.args.widths.left c.args.widths.right c.args.keys.now c.as_slice-keys.result.now c.args.left.now c.as_slice-left.result.now c.args.right.now c.as_slice-right.result.now c.in-Inner.is c.as_slice-keys.ensures c.as_slice-left.ensures c.as_slice-right.ensures) c.give_all.ensures
-
-pub returns-in-Left : goal.returns-in-Left
-returns-in-Left c =
-    IfOk-weaker c.give_all-in-Left.result (λ made. SameBag made (joined c.as_slice-keys.result.now c.args.widths.left c.args.widths.right c.as_slice-left.result.now c.as_slice-right.result.now kind.Left)) (λ made. SameBag made (joined c.args.keys.now c.args.widths.left c.args.widths.right c.args.left.now c.args.right.now c.args.kind))
-    (arm c.args.kind kind.Left c.args.widths.left c.args.widths.right c.args.keys.now c.as_slice-keys.result.now c.args.left.now c.as_slice-left.result.now c.args.right.now c.as_slice-right.result.now c.in-Left.is c.as_slice-keys.ensures c.as_slice-left.ensures c.as_slice-right.ensures) c.give_all-in-Left.ensures
-
 pub returns-in-Right : goal.returns-in-Right
 returns-in-Right c =
     IfOk-weaker c.give_right.result (λ made. SameBag made (joined c.as_slice-keys.result.now c.args.widths.left c.args.widths.right c.as_slice-left.result.now c.as_slice-right.result.now kind.Right)) (λ made. SameBag made (joined c.args.keys.now c.args.widths.left c.args.widths.right c.args.left.now c.args.right.now c.args.kind))
@@ -24,13 +14,3 @@ pub returns-in-Full : goal.returns-in-Full
 returns-in-Full c =
     IfOk-weaker c.give_both.result (λ made. SameBag made (joined c.as_slice-keys.result.now c.args.widths.left c.args.widths.right c.as_slice-left.result.now c.as_slice-right.result.now kind.Full)) (λ made. SameBag made (joined c.args.keys.now c.args.widths.left c.args.widths.right c.args.left.now c.args.right.now c.args.kind))
     (arm c.args.kind kind.Full c.args.widths.left c.args.widths.right c.args.keys.now c.as_slice-keys.result.now c.args.left.now c.as_slice-left.result.now c.args.right.now c.as_slice-right.result.now c.in-Full.is c.as_slice-keys.ensures c.as_slice-left.ensures c.as_slice-right.ensures) c.give_both.ensures
-
-pub returns-in-Semi : goal.returns-in-Semi
-returns-in-Semi c =
-    IfOk-weaker c.give_all-in-Semi.result (λ made. SameBag made (joined c.as_slice-keys.result.now c.args.widths.left c.args.widths.right c.as_slice-left.result.now c.as_slice-right.result.now kind.Semi)) (λ made. SameBag made (joined c.args.keys.now c.args.widths.left c.args.widths.right c.args.left.now c.args.right.now c.args.kind))
-    (arm c.args.kind kind.Semi c.args.widths.left c.args.widths.right c.args.keys.now c.as_slice-keys.result.now c.args.left.now c.as_slice-left.result.now c.args.right.now c.as_slice-right.result.now c.in-Semi.is c.as_slice-keys.ensures c.as_slice-left.ensures c.as_slice-right.ensures) c.give_all-in-Semi.ensures
-
-pub returns-in-Anti : goal.returns-in-Anti
-returns-in-Anti c =
-    IfOk-weaker c.give_all-in-Anti.result (λ made. SameBag made (joined c.as_slice-keys.result.now c.args.widths.left c.args.widths.right c.as_slice-left.result.now c.as_slice-right.result.now kind.Anti)) (λ made. SameBag made (joined c.args.keys.now c.args.widths.left c.args.widths.right c.args.left.now c.args.right.now c.args.kind))
-    (arm c.args.kind kind.Anti c.args.widths.left c.args.widths.right c.args.keys.now c.as_slice-keys.result.now c.args.left.now c.as_slice-left.result.now c.args.right.now c.as_slice-right.result.now c.in-Anti.is c.as_slice-keys.ensures c.as_slice-left.ensures c.as_slice-right.ensures) c.give_all-in-Anti.ensures

@@ -6,16 +6,6 @@ use Rattle.plan_model.specs.declared.join_kind.JoinKind.TheVariants as kind
 use Rattle.op_join.proofs.Arms.{arm}
 use Rattle.op_join.proofs.owned.join_owned.Goals as goal
 
-pub returns-in-Inner : goal.returns-in-Inner
-returns-in-Inner c =
-    IfOk-weaker c.move_all.result (λ made. SameBag made (joined c.as_slice-keys.result.now c.args.widths.left c.args.widths.right c.args.left c.as_slice-others.result.now kind.Inner)) (λ made. SameBag made (joined c.args.keys.now c.args.widths.left c.args.widths.right c.args.left c.args.right c.args.kind))
-    (arm c.args.kind kind.Inner c.args.widths.left c.args.widths.right c.args.keys.now c.as_slice-keys.result.now c.args.left c.args.left c.args.right c.as_slice-others.result.now c.in-Inner.is c.as_slice-keys.ensures refl c.as_slice-others.ensures) c.move_all.ensures
-
-pub returns-in-Left : goal.returns-in-Left
-returns-in-Left c =
-    IfOk-weaker c.move_all-in-Left.result (λ made. SameBag made (joined c.as_slice-keys.result.now c.args.widths.left c.args.widths.right c.args.left c.as_slice-others.result.now kind.Left)) (λ made. SameBag made (joined c.args.keys.now c.args.widths.left c.args.widths.right c.args.left c.args.right c.args.kind))
-    (arm c.args.kind kind.Left c.args.widths.left c.args.widths.right c.args.keys.now c.as_slice-keys.result.now c.args.left c.args.left c.args.right c.as_slice-others.result.now c.in-Left.is c.as_slice-keys.ensures refl c.as_slice-others.ensures) c.move_all-in-Left.ensures
-
 pub returns-in-Right : goal.returns-in-Right
 returns-in-Right c =
     IfOk-weaker c.move_right.result (λ made. SameBag made (joined c.as_slice-keys.result.now c.args.widths.left c.args.widths.right c.as_slice.result.now c.args.right kind.Right)) (λ made. SameBag made (joined c.args.keys.now c.args.widths.left c.args.widths.right c.args.left c.args.right c.args.kind))
@@ -25,13 +15,3 @@ pub returns-in-Full : goal.returns-in-Full
 returns-in-Full c =
     IfOk-weaker c.move_both.result (λ made. SameBag made (joined c.as_slice-keys.result.now c.args.widths.left c.args.widths.right c.args.left c.as_slice-others.result.now kind.Full)) (λ made. SameBag made (joined c.args.keys.now c.args.widths.left c.args.widths.right c.args.left c.args.right c.args.kind))
     (arm c.args.kind kind.Full c.args.widths.left c.args.widths.right c.args.keys.now c.as_slice-keys.result.now c.args.left c.args.left c.args.right c.as_slice-others.result.now c.in-Full.is c.as_slice-keys.ensures refl c.as_slice-others.ensures) c.move_both.ensures
-
-pub returns-in-Semi : goal.returns-in-Semi
-returns-in-Semi c =
-    IfOk-weaker c.move_all-in-Semi.result (λ made. SameBag made (joined c.as_slice-keys.result.now c.args.widths.left c.args.widths.right c.args.left c.as_slice-others.result.now kind.Semi)) (λ made. SameBag made (joined c.args.keys.now c.args.widths.left c.args.widths.right c.args.left c.args.right c.args.kind))
-    (arm c.args.kind kind.Semi c.args.widths.left c.args.widths.right c.args.keys.now c.as_slice-keys.result.now c.args.left c.args.left c.args.right c.as_slice-others.result.now c.in-Semi.is c.as_slice-keys.ensures refl c.as_slice-others.ensures) c.move_all-in-Semi.ensures
-
-pub returns-in-Anti : goal.returns-in-Anti
-returns-in-Anti c =
-    IfOk-weaker c.move_all-in-Anti.result (λ made. SameBag made (joined c.as_slice-keys.result.now c.args.widths.left c.args.widths.right c.args.left c.as_slice-others.result.now kind.Anti)) (λ made. SameBag made (joined c.args.keys.now c.args.widths.left c.args.widths.right c.args.left c.args.right c.args.kind))
-    (arm c.args.kind kind.Anti c.args.widths.left c.args.widths.right c.args.keys.now c.as_slice-keys.result.now c.args.left c.args.left c.args.right c.as_slice-others.result.now c.in-Anti.is c.as_slice-keys.ensures refl c.as_slice-others.ensures) c.move_all-in-Anti.ensures
