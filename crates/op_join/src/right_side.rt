@@ -20,6 +20,7 @@ pub struct RightSide<'a> {
     kind: JoinKind,
     keys: &'a [(u32, u32)],
     widths: Widths,
+    /// As they came. Only contracts speak of them.
     rows: &'a [Row],
     sorted: Vec<Keyed<'a>>,
 }

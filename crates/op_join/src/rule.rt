@@ -23,7 +23,7 @@ pub enum Rule {
     RowIfUnmatched,
 }
 
-/// What each left row gives, in a join that goes by them.
+/// What each left row gives, in a join that goes by its left rows.
 pub fn left_rule(kind: JoinKind) -> Rule
     requires { IsTrue (goes_by_left kind) }
     ensures { (keys : List (ℕ × ℕ)) (left_width right_width : ℕ) (left right : List OneRow)
