@@ -2,7 +2,7 @@ ghost use Rattle.std.specs.Prelude.{◌∷◌, [], All, IsTrue, length};
 ghost use Rattle.plan_model.specs.Checks.{columns_fit};
 ghost use Rattle.op_unary.specs.Applied.{is_unary};
 
-use crate::{DistinctRows, apply, apply_owned};
+use crate::{DistinctRows, Groups, apply, apply_owned};
 use plan_model::{Agg, Aggs, Exprs, Op};
 use row_core::{Bytes, Cmp, Columns, Expr, NoMemory, Pred, Row, Rows, Value};
 use std::alloc::Global;
@@ -105,7 +105,7 @@ fn check(rt: &impl Abort, alloc: Global, op: &Op, cases: &[(&str, &str)]) -> Res
 }
 
 // One of each of rows that come in these parts.
-fn check_parts(
+fn check_distinct(
     rt: &impl Abort,
     alloc: Global,
     parts: &[&str],
@@ -198,20 +198,20 @@ fn distinct_gives_one_of_each(rt: HostRuntime) -> Result<(), Fail> {
 #[test]
 fn distinct_rows_come_part_by_part(rt: HostRuntime) -> Result<(), Fail> {
     let alloc = rt.alloc();
-    check_parts(
+    check_distinct(
         &rt,
         alloc,
         &["a;b;a;c;", "b;d;", "", "d;a;e;"],
         "a;b;c;d;e;",
     )?;
-    check_parts(
+    check_distinct(
         &rt,
         alloc,
         &["#1 a;", "#1 a;#2 ?;", "#2 ?;#2 ?;"],
         "#1 a;#2 ?;",
     )?;
-    check_parts(&rt, alloc, &["", "b;b;b;", "b;"], "b;")?;
-    check_parts(&rt, alloc, &[], "")?;
+    check_distinct(&rt, alloc, &["", "b;b;b;", "b;"], "b;")?;
+    check_distinct(&rt, alloc, &[], "")?;
     Ok(())
 }
 
@@ -260,5 +260,74 @@ fn two_keys_are_one_key(rt: HostRuntime) -> Result<(), Fail> {
         ("a x ?;? x a;a x ?;", "? a #2;a ? #1;"),
     ];
     check(&rt, alloc, &op, &cases)?;
+    Ok(())
+}
+
+// What groups by the first column tell of the second, of rows that come in these parts.
+fn check_groups(
+    rt: &impl Abort,
+    alloc: Global,
+    parts: &[&str],
+    wanted: &str,
+) -> Result<(), NoMemory> {
+    let aggs = [Agg::Count, Agg::Sum(1), Agg::Min(1), Agg::Max(1)];
+    let mut groups = Groups::new(alloc, &[0], &aggs);
+    for part in parts {
+        groups = groups.with_rows(alloc, read_rows(alloc, part)?)?;
+    }
+    let shown = show(alloc, &groups.into_rows(alloc)?)?;
+    assert_eq!(rt; shown.as_slice(), wanted.as_bytes());
+    Ok(())
+}
+
+#[test]
+fn groups_tell_of_all_parts(rt: HostRuntime) -> Result<(), Fail> {
+    let alloc = rt.alloc();
+    let parts = ["a #1;b ?;", "a #5;? #2;c x;", "b #3;? #-2;a ?;"];
+    let wanted = "? #2 #0 #-2 #2;a #3 #6 #1 #5;b #2 #3 #3 #3;c #1 ? x x;";
+    check_groups(&rt, alloc, &parts, wanted)?;
+    check_groups(&rt, alloc, &["", "", ""], "")?;
+    Ok(())
+}
+
+#[test]
+fn sums_of_parts_may_leave_64_bits(rt: HostRuntime) -> Result<(), Fail> {
+    let alloc = rt.alloc();
+    let parts = [
+        "k #9223372036854775807;k #9223372036854775807;",
+        "k #-9223372036854775808;k #-9223372036854775808;",
+        "k #3;",
+    ];
+    let wanted = "k #5 #1 #-9223372036854775808 #9223372036854775807;";
+    check_groups(&rt, alloc, &parts, wanted)?;
+    let parts = ["k #9223372036854775807;", "k #1;"];
+    check_groups(&rt, alloc, &parts, "k #2 ? #1 #9223372036854775807;")?;
+    Ok(())
+}
+
+// Rows of a number and its double, of each number below the size.
+fn doubles(alloc: Global, size: i64) -> Result<Rows, NoMemory> {
+    let mut rows = Rows::new(alloc);
+    for number in 0..size {
+        let mut row = Row::new(alloc);
+        row.push(Value::Int(number))?;
+        row.push(Value::Int(number.wrapping_add(number)))?;
+        rows.push(row)?;
+    }
+    Ok(rows)
+}
+
+#[test]
+fn many_groups_are_joined(rt: HostRuntime) -> Result<(), Fail> {
+    let alloc = rt.alloc();
+    let mut groups = Groups::new(alloc, &[0], &[Agg::Count]);
+    for _ in 0..4 {
+        groups = groups.with_rows(alloc, doubles(alloc, 1100)?)?;
+    }
+    let rows = groups.into_rows(alloc)?;
+    assert_eq!(&rt; rows.len(), 1100);
+    for row in rows.as_slice() {
+        assert!(&rt; matches!(row.as_slice(), [_, Value::Int(4)]));
+    }
     Ok(())
 }
