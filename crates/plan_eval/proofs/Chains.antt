@@ -1,5 +1,5 @@
 -- Nodes whose rows chains are yet to give.
-use Rattle.std.proofs.Common.{◌≡◌, ℕ, zero, suc, ◌<◌, ◌≤◌, All, List, [], ◌∷◌, ◌++◌, length, map, get_or, set, Option, None, Some, refl, sym, subst, ap, ◌∙◌, arith}
+use Rattle.std.proofs.Common.{◌≡◌, ◌≢◌, ℕ, zero, suc, ◌<◌, ◌≤◌, All, List, [], ◌∷◌, ◌++◌, length, map, get_or, set, Option, None, Some, refl, sym, subst, ap, ◌∙◌, arith}
 use Rattle.std.proofs.lemmas.List.{length-map, get_or_default}
 use Rattle.row_core.specs.Bags.{SameBag}
 use Rattle.bag_laws.proofs.Alike.{same_refl, same_on}
@@ -8,7 +8,7 @@ use Rattle.plan_model.specs.Checks.{takes, columns_fit, widths_agree}
 use Rattle.plan_model.specs.Plans.{Bag, bag_at, empty_bag}
 use Rattle.plan_model.specs.Widths.{width_of, input_widths}
 use Rattle.plan_model.specs.declared.op.Op.{Op}
-use Rattle.plan_eval.specs.Evaluated.{Alike, AreAlike, HasItsWidth, IsGood, Keeps, KeepsBags, as_bag, bags_found, inputs_in, with_chain}
+use Rattle.plan_eval.specs.Evaluated.{Alike, AreAlike, HasItsWidth, IsGood, Keeps, KeepsBags, LosesBag, as_bag, bag_with, bags_found, inputs_in, with_chain}
 use Rattle.plan_eval.specs.declared.node_rows.NodeRows.{NodeRows}
 use Rattle.plan_eval.proofs.Alikes.{width_at}
 use Rattle.plan_eval.proofs.Slots.{long_kept, width_here}
@@ -106,6 +106,42 @@ others_gone (c ∷ cs) zero (suc other) none = none
 others_gone (c ∷ cs) (suc k) zero none = none
 others_gone (c ∷ cs) (suc k) (suc other) none = others_gone cs k other none
 
+pub given_at : (bags : List Bag) (inputs : List ℕ) (k : ℕ) → k < length inputs → bag_at (map (bag_at bags) inputs) k ≡ bag_at bags (get_or inputs k 0)
+given_at bags [] k lt = absurd (omega (arith, lt))
+given_at bags (input ∷ inputs) zero lt = refl
+given_at bags (input ∷ inputs) (suc k) lt = given_at bags inputs k (omega (arith, lt))
+
+-- ---- a chain that is moved out
+
+chain_lost : (nodes : List NodeRows) (chains : List (Option (List Row))) (k : ℕ) → LosesBag k (bags_found nodes chains) (bags_found nodes (set chains k None))
+chain_lost [] chains k = record { widths = refl; others = λ other apart. refl }
+chain_lost (n ∷ ns) [] k = record { widths = refl; others = λ other apart. refl }
+chain_lost (n ∷ ns) (c ∷ cs) zero = record { widths = λ i. sym (chain_width c (as_bag n)) i ∷ map (λ bag. bag.width) (bags_found ns cs); others = at }
+  where
+    at : (other : ℕ) → other ≢ 0 → bag_at (as_bag n ∷ bags_found ns cs) other ≡ bag_at (with_chain c (as_bag n) ∷ bags_found ns cs) other
+    at zero apart = absurd (apart refl)
+    at (suc other) apart = refl
+chain_lost (n ∷ ns) (c ∷ cs) (suc k) =
+    let rest = chain_lost ns cs k in
+    record { widths = ap (λ (widths : List ℕ). (with_chain c (as_bag n)).width ∷ widths) rest.widths; others = at rest.others }
+  where
+    at : ((other : ℕ) → other ≢ k → bag_at (bags_found ns (set cs k None)) other ≡ bag_at (bags_found ns cs) other)
+        → (other : ℕ) → other ≢ suc k → bag_at (with_chain c (as_bag n) ∷ bags_found ns (set cs k None)) other ≡ bag_at (with_chain c (as_bag n) ∷ bags_found ns cs) other
+    at rest zero apart = refl
+    at rest (suc other) apart = rest other (λ e. apart (ap suc e))
+
+-- nothing changes where there was none
+pub none_moved : (nodes : List NodeRows) (chains : List (Option (List Row))) (k : ℕ) → get_or chains k None ≡ None → bags_found nodes (set chains k None) ≡ bags_found nodes chains
+none_moved [] chains k none = refl
+none_moved (n ∷ ns) [] k none = refl
+none_moved (n ∷ ns) (c ∷ cs) zero none = λ i. with_chain (sym none i) (as_bag n) ∷ bags_found ns cs
+none_moved (n ∷ ns) (c ∷ cs) (suc k) none = ap (λ (bags : List Bag). with_chain c (as_bag n) ∷ bags) (none_moved ns cs k none)
+
+pub chain_moved : (nodes : List NodeRows) (chains : List (Option (List Row))) (k : ℕ) (left : Option (List Row)) → left ≡ None
+    → LosesBag k (bags_found nodes chains) (bags_found nodes (set chains k left))
+chain_moved nodes chains k left none =
+    subst (λ (chain : Option (List Row)). LosesBag k (bags_found nodes chains) (bags_found nodes (set chains k chain))) (sym none) (chain_lost nodes chains k)
+
 -- ---- operators over equal bags
 
 module _ (bags others : List Bag) (alike : AreAlike bags others) (inputs : List ℕ) where
@@ -163,3 +199,35 @@ keeps_alike place last bags others left alike kept = record {
 
 pub keeps_still : (place : ℕ) (last : List ℕ) (bags : List Bag) → KeepsBags place last bags bags
 keeps_still place last bags = record { widths = refl; others = λ other later. same_refl (bag_at bags other).rows }
+
+pub keeps_lost : (place : ℕ) (last : List ℕ) (input : ℕ) (bags left : List Bag) → get_or last input 0 ≤ place → LosesBag input bags left → KeepsBags place last bags left
+keeps_lost place last input bags left done lost = record {
+  widths = lost.widths;
+  others = λ other later. subst (λ (bag : Bag). SameBag bag.rows (bag_at bags other).rows)
+      (sym (lost.others other (λ (e : other ≡ input). let same : get_or last other 0 ≡ get_or last input 0 = ap (λ (k : ℕ). get_or last k 0) e in omega (arith, same, later, done))))
+      (same_refl (bag_at bags other).rows);
+}
+
+pub keeps_on : (place : ℕ) (last : List ℕ) (bags left rest : List Bag) → KeepsBags place last bags left → KeepsBags place last left rest → KeepsBags place last bags rest
+keeps_on place last bags left rest one two = record {
+  widths = two.widths ∙ one.widths;
+  others = λ other later. same_on (two.others other later) (one.others other later);
+}
+
+-- equal bags, of which each is kept
+pub keeps_equal : (place : ℕ) (last : List ℕ) (bags others : List Bag) → AreAlike bags others → KeepsBags place last bags others
+keeps_equal place last bags others alike = record { widths = alike.widths; others = λ other later. alike.rows other }
+
+pub bag_is : (bag : Bag) (width : ℕ) (rows : List Row) → width ≡ bag.width → rows ≡ bag.rows → bag_with width rows ≡ bag
+bag_is bag width rows wide are = λ i. record { width = wide i; rows = are i }
+
+pub one_input : (inputs : List ℕ) → length inputs ≡ 1 → get_or inputs 0 0 ∷ [] ≡ inputs
+one_input [] long = absurd (omega (arith, long))
+one_input (x ∷ []) long = refl
+one_input (x ∷ y ∷ rest) long = absurd (omega (arith, long))
+
+pub two_inputs : (inputs : List ℕ) → length inputs ≡ 2 → get_or inputs 0 0 ∷ get_or inputs 1 0 ∷ [] ≡ inputs
+two_inputs [] long = absurd (omega (arith, long))
+two_inputs (x ∷ []) long = absurd (omega (arith, long))
+two_inputs (x ∷ y ∷ []) long = refl
+two_inputs (x ∷ y ∷ z ∷ rest) long = absurd (omega (arith, long))

@@ -1,5 +1,6 @@
 pub mod Alikes
-pub mod ByFile
+pub mod ByPart
+pub mod Stepped
 pub mod Chains
 pub mod Defined
 pub mod Gathered

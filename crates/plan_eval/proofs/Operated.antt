@@ -6,12 +6,14 @@ use Rattle.bag_laws.specs.Rows.{OneRow as Row}
 use Rattle.plan_model.specs.Checks.{takes, columns_fit}
 use Rattle.plan_model.specs.Joins.{joined}
 use Rattle.plan_model.specs.Plans.{Bag, bag_at, bag_of}
+use Rattle.plan_model.specs.declared.aggs.Aggs.{Aggs}
+use Rattle.row_core.specs.declared.columns.Columns.{Columns}
 use Rattle.plan_model.specs.declared.join_kind.JoinKind.{JoinKind}
 use Rattle.plan_model.specs.declared.key_pairs.KeyPairs.{KeyPairs}
 use Rattle.plan_model.specs.declared.schema.Schema.{Schema}
 use Rattle.plan_model.specs.declared.op.Op.{Op}
 use Rattle.plan_model.specs.declared.op.Op.TheVariants.{Source, Filter, Project, Explode, Union, Aggregate, Distinct, Join, Sink}
-use Rattle.op_unary.specs.Applied.{applied, is_unary}
+use Rattle.op_unary.specs.Applied.{applied, is_row_wise, is_unary}
 use Rattle.plan_eval.specs.Evaluated.{IsGood, takes_one}
 use Rattle.plan_eval.proofs.Alikes.{width_at}
 use Rattle.plan_eval.proofs.WidthsKept.{wide_at}
@@ -101,3 +103,28 @@ has_inputs (Aggregate keys aggs) n source number = let is = eqb-true n 1 number 
 has_inputs Distinct n source number = let is = eqb-true n 1 number in omega (arith, is)
 has_inputs (Join kind keys) n source number = let is = eqb-true n 2 number in omega (arith, is)
 has_inputs (Sink name) n source number = let is = eqb-true n 1 number in omega (arith, is)
+
+-- ---- a chain that an operator takes
+
+pub row_wise_else : (op : Op) → IsTrue (takes op 1) → ((keys : Columns) (aggs : Aggs) → op ≡ Aggregate keys aggs → ⊥) → (op ≡ Distinct → ⊥)
+    → ((name : Bytes) → op ≡ Sink name → ⊥) → IsTrue (is_row_wise op)
+row_wise_else (Source table columns) number aggregate distinct sink = cc
+row_wise_else (Filter test) number aggregate distinct sink = refl
+row_wise_else (Project exprs) number aggregate distinct sink = refl
+row_wise_else (Explode column separator) number aggregate distinct sink = refl
+row_wise_else Union number aggregate distinct sink = refl
+row_wise_else (Aggregate keys aggs) number aggregate distinct sink = absurd (aggregate keys aggs refl)
+row_wise_else Distinct number aggregate distinct sink = absurd (distinct refl)
+row_wise_else (Join kind keys) number aggregate distinct sink = cc
+row_wise_else (Sink name) number aggregate distinct sink = absurd (sink name refl)
+
+pub columns_found : (op : Op) (bag : Bag) → IsGood op (bag ∷ []) → All (λ row. IsTrue (columns_fit op (length row ∷ []))) bag.rows
+columns_found (Source table columns) bag good = λ k d lt. refl
+columns_found (Filter test) bag good = columns_given (bag ∷ []) (Filter test) refl good
+columns_found (Project exprs) bag good = columns_given (bag ∷ []) (Project exprs) refl good
+columns_found (Explode column separator) bag good = columns_given (bag ∷ []) (Explode column separator) refl good
+columns_found Union bag good = λ k d lt. refl
+columns_found (Aggregate keys aggs) bag good = columns_given (bag ∷ []) (Aggregate keys aggs) refl good
+columns_found Distinct bag good = λ k d lt. refl
+columns_found (Join kind keys) bag good = let number = good.number in cc
+columns_found (Sink name) bag good = λ k d lt. refl

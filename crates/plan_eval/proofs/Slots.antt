@@ -1,29 +1,15 @@
 -- The nodes so far, where one of them is changed.
-use Rattle.std.proofs.Common.{◌≡◌, ◌≢◌, ℕ, zero, suc, ◌<◌, ◌≤◌, List, [], ◌∷◌, length, map, get_or, set, Option, None, Some, refl, sym, ap, ◌∙◌, arith}
+use Rattle.std.proofs.Common.{◌≡◌, ◌≢◌, ℕ, zero, suc, ◌<◌, ◌≤◌, List, [], ◌∷◌, length, map, get_or, set, refl, ap, ◌∙◌, arith}
 use Rattle.std.proofs.lemmas.List.{length-map}
 use Rattle.plan_model.specs.Plans.{Bag, bag_at}
-use Rattle.plan_eval.specs.Evaluated.{IsRead, Keeps, LosesOnly, as_bag, rows_or, rows_unread}
+use Rattle.plan_eval.specs.Evaluated.{Keeps, LosesOnly, as_bag}
 use Rattle.plan_eval.specs.declared.node_rows.NodeRows.{NodeRows}
-use Rattle.plan_eval.specs.declared.unread.Unread.{Unread}
 
 -- the same bag in its place
 pub set_bag : (nodes : List NodeRows) (k : ℕ) (node some : NodeRows) → k < length nodes → as_bag node ≡ as_bag (get_or nodes k some) → map as_bag (set nodes k node) ≡ map as_bag nodes
 set_bag [] k node some lt same = absurd (omega (arith, lt))
 set_bag (n ∷ ns) zero node some lt same = λ i. same i ∷ map as_bag ns
 set_bag (n ∷ ns) (suc k) node some lt same = ap (λ (l : List Bag). as_bag n ∷ l) (set_bag ns k node some (omega (arith, lt)) same)
-
--- a node that is read in its place
-pub set_read : (nodes : List NodeRows) (k : ℕ) (node : NodeRows) → k < length nodes → node.unread ≡ None → IsRead (set nodes k node) k
-set_read [] k node lt none = absurd (omega (arith, lt))
-set_read (n ∷ ns) zero node lt none = none
-set_read (n ∷ ns) (suc k) node lt none = set_read ns k node (omega (arith, lt)) none
-
-pub set_others : (nodes : List NodeRows) (k : ℕ) (node : NodeRows) (other : ℕ) → node.unread ≡ None → IsRead nodes other → IsRead (set nodes k node) other
-set_others [] k node other none was = was
-set_others (n ∷ ns) zero node zero none was = none
-set_others (n ∷ ns) zero node (suc other) none was = was
-set_others (n ∷ ns) (suc k) node zero none was = was
-set_others (n ∷ ns) (suc k) node (suc other) none was = set_others ns k node other none was
 
 set_widths : (nodes : List NodeRows) (k : ℕ) (node some : NodeRows) → k < length nodes → node.width ≡ (get_or nodes k some).width
     → map (λ bag. bag.width) (map as_bag (set nodes k node)) ≡ map (λ bag. bag.width) (map as_bag nodes)
@@ -42,28 +28,11 @@ set_apart (n ∷ ns) (suc k) node (suc other) apart = set_apart ns k node other 
 pub set_loses : (nodes : List NodeRows) (k : ℕ) (node some : NodeRows) → k < length nodes → node.width ≡ (get_or nodes k some).width → LosesOnly k nodes (set nodes k node)
 set_loses nodes k node some lt same = record { widths = set_widths nodes k node some lt same; others = set_apart nodes k node }
 
--- the rows of a node that is read
-pub rows_at : (nodes : List NodeRows) (k : ℕ) (some : NodeRows) → k < length nodes → IsRead nodes k → (get_or nodes k some).rows ≡ (bag_at (map as_bag nodes) k).rows
-rows_at [] k some lt none = absurd (omega (arith, lt))
-rows_at (n ∷ ns) zero some lt none = ap (λ (unread : Option Unread). rows_or unread n.rows) (sym none)
-rows_at (n ∷ ns) (suc k) some lt none = rows_at ns k some (omega (arith, lt)) none
-
--- nothing of it is unread
-pub none_at : (nodes : List NodeRows) (k : ℕ) (some : NodeRows) → k < length nodes → IsRead nodes k → (get_or nodes k some).unread ≡ None
-none_at [] k some lt none = absurd (omega (arith, lt))
-none_at (n ∷ ns) zero some lt none = none
-none_at (n ∷ ns) (suc k) some lt none = none_at ns k some (omega (arith, lt)) none
-
--- the rows of a node that is unread
-pub unread_at : (nodes : List NodeRows) (k : ℕ) (here : NodeRows) (unread : Unread) → k < length nodes → here ≡ get_or nodes k here → here.unread ≡ Some unread
-    → (bag_at (map as_bag nodes) k).rows ≡ rows_unread unread
-unread_at nodes k here unread lt is some =
-    bag_here nodes k here lt ∙ ap (λ (node : NodeRows). rows_or node.unread node.rows) (sym is) ∙ ap (λ (unread : Option Unread). rows_or unread here.rows) some
-  where
-    bag_here : (nodes : List NodeRows) (k : ℕ) (here : NodeRows) → k < length nodes → (bag_at (map as_bag nodes) k).rows ≡ rows_or (get_or nodes k here).unread (get_or nodes k here).rows
-    bag_here [] k here lt = absurd (omega (arith, lt))
-    bag_here (n ∷ ns) zero here lt = refl
-    bag_here (n ∷ ns) (suc k) here lt = bag_here ns k here (omega (arith, lt))
+-- the rows of a node
+pub rows_at : (nodes : List NodeRows) (k : ℕ) (some : NodeRows) → k < length nodes → (get_or nodes k some).rows ≡ (bag_at (map as_bag nodes) k).rows
+rows_at [] k some lt = absurd (omega (arith, lt))
+rows_at (n ∷ ns) zero some lt = refl
+rows_at (n ∷ ns) (suc k) some lt = rows_at ns k some (omega (arith, lt))
 
 pub width_here : (nodes : List NodeRows) (k : ℕ) (some : NodeRows) → k < length nodes → (get_or nodes k some).width ≡ (bag_at (map as_bag nodes) k).width
 width_here [] k some lt = absurd (omega (arith, lt))

@@ -1,34 +1,23 @@
 -- The rows of nodes as they are found, beside the bags of the definition.
-use Rattle.std.specs.Prelude.{◌≡◌, ◌≢◌, ℕ, ◌≤◌, ◌<◌, Bool, true, false, List, [], ◌∷◌, length, map, get_or, slice_get, All, IsTrue, Option, Some, None}
-use Rattle.std.specs.List.{flat_map}
+use Rattle.std.specs.Prelude.{◌≡◌, ◌≢◌, ℕ, ◌≤◌, ◌<◌, Bool, true, false, not, List, [], ◌∷◌, length, map, get_or, slice_get, All, IsTrue, Option, Some, None}
 use Rattle.std.specs.Option.{option_map_or}
 use Rattle.row_core.specs.Bags.{SameBag}
 use Rattle.row_core.specs.declared.value.Value.{Value}
-use Rattle.op_unary.specs.Applied.{is_row_wise}
 use Rattle.plan_model.specs.Checks.{is_sink, takes, columns_fit, widths_agree}
-use Rattle.plan_model.specs.Plans.{Bag, bag_at}
-use Rattle.plan_model.specs.Tables.{table_rows}
+use Rattle.plan_model.specs.Plans.{Bag, bag_at, bag_of}
 use Rattle.plan_model.specs.Widths.{width_of}
 use Rattle.plan_model.specs.declared.node.Node.{Node}
 use Rattle.plan_model.specs.declared.op.Op.{Op}
 use Rattle.plan_model.specs.declared.op.Op.TheVariants.{Source, Filter, Project, Explode, Union, Aggregate, Distinct, Join, Sink}
+use Rattle.plan_eval.specs.declared.found.Found.{Found}
+use Rattle.plan_eval.specs.declared.made.Made.{Made}
 use Rattle.plan_eval.specs.declared.node_rows.NodeRows.{NodeRows}
-use Rattle.plan_eval.specs.declared.unread.Unread.{Unread}
 
--- rows that are yet to be read from files
-abbrev pub rows_unread : Unread → List (List Value)
-rows_unread unread = flat_map (table_rows unread.kinds) unread.files.now
-
-abbrev pub rows_or : Option Unread → List (List Value) → List (List Value)
-rows_or None rows = rows
-rows_or (Some unread) rows = rows_unread unread
+abbrev pub bag_with : ℕ → List (List Value) → Bag
+bag_with width rows = record { width = width; rows = rows }
 
 abbrev pub as_bag : NodeRows → Bag
-as_bag node = record { width = node.width; rows = rows_or node.unread node.rows }
-
--- nothing of the node at this place is unread
-abbrev pub IsRead : List NodeRows → ℕ → Type 0
-IsRead nodes place = get_or (map (λ node. node.unread) nodes) place None ≡ None
+as_bag node = record { width = node.width; rows = node.rows }
 
 -- all widths stay, and the rows of all nodes but this one
 pub record LosesOnly (place : ℕ) (nodes left : List NodeRows) : Type 0 where
@@ -45,12 +34,7 @@ pub record Keeps (place : ℕ) (last : List ℕ) (nodes left : List NodeRows) : 
   pub widths : map (λ bag. bag.width) (map as_bag left) ≡ map (λ bag. bag.width) (map as_bag nodes)
   pub others : (other : ℕ) → place < get_or last other 0 → bag_at (map as_bag left) other ≡ bag_at (map as_bag nodes) other
 
--- an operator that goes row by row, and finds its columns in each of these rows
-pub record GoesByFile (op : Op) (rows : List (List Value)) : Type 0 where
-  pub row_wise : IsTrue (is_row_wise op)
-  pub columns : All (λ row. IsTrue (columns_fit op (length row ∷ []))) rows
-
--- the rows that an operator is yet to give, where there is one, in place of the node's own
+-- the rows that a chain is yet to give, where there is one, in place of the node's own
 abbrev pub with_chain : Option (List (List Value)) → Bag → Bag
 with_chain None bag = bag
 with_chain (Some rows) bag = record { width = bag.width; rows = rows }
@@ -60,6 +44,11 @@ abbrev pub bags_found : List NodeRows → List (Option (List (List Value))) → 
 bags_found [] chains = []
 bags_found (node ∷ nodes) [] = as_bag node ∷ bags_found nodes []
 bags_found (node ∷ nodes) (chain ∷ chains) = with_chain chain (as_bag node) ∷ bags_found nodes chains
+
+-- all widths stay, and all bags but the one at this place
+pub record LosesBag (place : ℕ) (bags left : List Bag) : Type 0 where
+  pub widths : map (λ bag. bag.width) left ≡ map (λ bag. bag.width) bags
+  pub others : (other : ℕ) → other ≢ place → bag_at left other ≡ bag_at bags other
 
 -- equal bags in each place
 pub record AreAlike (bags others : List Bag) : Type 0 where
@@ -83,6 +72,26 @@ pub record Alike (bag other : Bag) : Type 0 where
 -- each row has the bag's width
 abbrev pub HasItsWidth : Bag → Type 0
 HasItsWidth bag = All (λ row. length row ≡ bag.width) bag.rows
+
+-- the bags of all nodes so far
+abbrev pub bags_in : Found → List Bag
+bags_in found = bags_found found.done.items found.chains.items
+
+-- the bags of these inputs, some of which are yet to be given
+abbrev pub given_in : Found → List ℕ → List Bag
+given_in found inputs = map (bag_at (bags_in found)) inputs
+
+-- each node has a place for its chain
+abbrev pub HasPlaces : Found → Type 0
+HasPlaces found = length found.chains.items ≡ length found.done.items
+
+abbrev pub bag_made : Made → Bag
+bag_made made = with_chain made.chain (as_bag made.node)
+
+-- the bag is what the operator gives on these; that of a sink is left open
+pub record IsGiven (files : List ℕ → List (List ℕ)) (op : Op) (given : List Bag) (bag : Bag) : Type 0 where
+  pub width : bag.width ≡ width_of op (map (λ bag. bag.width) given)
+  pub rows : IsTrue (not (is_sink op)) → SameBag bag.rows (bag_of files op given).rows
 
 -- an operator that nothing is wrong with, on these inputs
 pub record IsGood (op : Op) (inputs : List Bag) : Type 0 where

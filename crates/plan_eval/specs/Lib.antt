@@ -1,3 +1,4 @@
+pub mod Chains
 pub mod Evaluated
 pub mod Tables
 pub mod Takers

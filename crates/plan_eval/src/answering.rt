@@ -24,7 +24,7 @@ pub fn answer(alloc: Global, plan: &GoodPlan, tables: &TableRows) -> Result<Byte
         let place = found.done.len();
         let last = last.as_slice();
         let made = make_node(alloc, tables, node, place, last, &mut found, &mut text)?;
-        found.push(made.node, made.chain)?;
+        found.push(made)?;
     }
     Ok(text)
 }

@@ -4,7 +4,7 @@ ghost use Rattle.op_unary.specs.Applied.{applied};
 ghost use Rattle.plan_model.specs.Plans.{bag_at};
 ghost use Rattle.plan_eval.specs.Evaluated.{IsGood, Keeps, LosesOnly, as_bag, takes_one};
 
-use crate::done::{read_node, rows_of, take_node};
+use crate::done::{rows_of, take_node};
 use crate::node_rows::NodeRows;
 use crate::takers::takes_last;
 use op_unary::{apply, apply_owned};
@@ -20,7 +20,7 @@ pub fn applied_to(
     input: u32,
     place: usize,
     last: &[usize],
-    done: &mut Vec<NodeRows<'_>>,
+    done: &mut Vec<NodeRows>,
 ) -> Result<Rows, NoMemory>
     requires within { input < length done.old.items }
     requires one { IsTrue (takes_one op.now) }
@@ -29,42 +29,9 @@ pub fn applied_to(
     ensures kept { OnOk result (Keeps place last.now done.old.items done.new.items) }
 {
     if takes_last(place, last, input) {
-        apply_taken(alloc, op, input, done)
+        let rows = take_node(alloc, input, done);
+        apply_owned(alloc, op, rows)
     } else {
-        apply_kept(alloc, op, input, done)
+        apply(alloc, op, rows_of(done.as_slice(), input))
     }
-}
-
-fn apply_kept(
-    alloc: Global,
-    op: &Op,
-    input: u32,
-    done: &mut Vec<NodeRows<'_>>,
-) -> Result<Rows, NoMemory>
-    requires within { input < length done.old.items }
-    requires one { IsTrue (takes_one op.now) }
-    requires good { IsGood op.now (bag_at (map as_bag done.old.items) input ∷ []) }
-    ensures rows { IfOk result (λ rows. SameBag rows (applied op.now (bag_at (map as_bag done.old.items) input).rows)) }
-    ensures kept { OnOk result (map as_bag done.new.items ≡ map as_bag done.old.items) }
-{
-    read_node(alloc, input, done)?;
-    apply(alloc, op, rows_of(done.as_slice(), input))
-}
-
-// The node's rows go.
-fn apply_taken(
-    alloc: Global,
-    op: &Op,
-    input: u32,
-    done: &mut Vec<NodeRows<'_>>,
-) -> Result<Rows, NoMemory>
-    requires within { input < length done.old.items }
-    requires one { IsTrue (takes_one op.now) }
-    requires good { IsGood op.now (bag_at (map as_bag done.old.items) input ∷ []) }
-    ensures rows { IfOk result (λ rows. SameBag rows (applied op.now (bag_at (map as_bag done.old.items) input).rows)) }
-    ensures kept { OnOk result (LosesOnly input done.old.items done.new.items) }
-{
-    read_node(alloc, input, done)?;
-    let rows = take_node(alloc, input, done);
-    apply_owned(alloc, op, rows)
 }

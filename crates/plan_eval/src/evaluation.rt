@@ -4,66 +4,45 @@ ghost use Rattle.plan_model.specs.Checks.{is_sink};
 ghost use Rattle.plan_model.specs.Plans.{bag_at, bag_of, sink_section};
 ghost use Rattle.plan_model.specs.Joins.{joined};
 ghost use Rattle.plan_model.specs.Widths.{width_of as width_by};
-ghost use Rattle.plan_eval.specs.Evaluated.{IsGood, IsRead, Keeps, LosesBoth, as_bag, inputs_in};
-ghost use Rattle.plan_eval.specs.Tables.{files_of};
+ghost use Rattle.plan_eval.specs.Evaluated.{IsGood, Keeps, LosesBoth, as_bag, inputs_in};
 
-use crate::TableRows;
 use crate::applying::applied_to;
-use crate::done::{read_node, release, rows_of, take_node};
+use crate::done::{release, rows_of, take_node};
 use crate::gathering::concatenated;
 use crate::node_rows::NodeRows;
 use crate::sections::write_section;
 use crate::takers::takes_last;
-use crate::unread::Unread;
 use op_join::{join, join_owned};
 use plan_model::{JoinKind, KeyPairs, Node, Op, Widths};
 use row_core::{Bytes, NoMemory, Rows};
 use std::alloc::Global;
 
-/// The rows of the node at this place over those of the nodes before it, and the text of a sink. Rows
+/// The rows of a node that has inputs over those of the nodes before it, and the text of a sink. Rows
 /// that no later node takes, as `last` tells, are moved or let go. A sink gives no rows.
-pub fn evaluate<'a>(
+pub fn evaluate(
     alloc: Global,
-    tables: &'a TableRows,
     node: &Node,
     place: usize,
     last: &[usize],
-    done: &mut Vec<NodeRows<'a>>,
+    done: &mut Vec<NodeRows>,
     text: &mut Bytes,
-) -> Result<NodeRows<'a>, NoMemory>
+) -> Result<NodeRows, NoMemory>
+    requires some { 0 < length node.now.inputs }
     requires earlier { All (λ input. input < length done.old.items) node.now.inputs }
     requires good { IsGood node.now.op (inputs_in done.old.items node.now.inputs) }
     ensures width { IfOk result (λ made. made.width ≡ width_by node.now.op (map (λ bag. bag.width) (inputs_in done.old.items node.now.inputs))) }
-    ensures rows { IfOk result (λ made. IsTrue (not (is_sink node.now.op))
-        → SameBag (as_bag made).rows (bag_of (files_of tables.now) node.now.op (inputs_in done.old.items node.now.inputs)).rows) }
+    ensures rows { IfOk result (λ made. IsTrue (not (is_sink node.now.op)) → (files : List ℕ → List (List ℕ))
+        → SameBag made.rows (bag_of files node.now.op (inputs_in done.old.items node.now.inputs)).rows) }
     ensures kept { OnOk result (Keeps place last.now done.old.items done.new.items) }
     ensures text { OnOk result (text.new ≡ text.old ++ sink_section node.now.op (bag_at (inputs_in done.old.items node.now.inputs) 0)) }
 {
     let inputs = node.inputs.as_slice();
     let width = width_over(alloc, &node.op, inputs, done.as_slice())?;
-    if let Op::Source { table, columns } = &node.op {
-        let unread = Some(Unread::new(alloc, tables, table, columns)?);
-        let rows = Rows::new(alloc);
-        return Ok(NodeRows {
-            width,
-            unread,
-            rows,
-        });
-    }
     let rows = rows_over(alloc, &node.op, inputs, place, last, done, text)?;
-    Ok(NodeRows {
-        width,
-        unread: None,
-        rows,
-    })
+    Ok(NodeRows { width, rows })
 }
 
-fn width_over(
-    alloc: Global,
-    op: &Op,
-    inputs: &[u32],
-    done: &[NodeRows<'_>],
-) -> Result<u32, NoMemory>
+fn width_over(alloc: Global, op: &Op, inputs: &[u32], done: &[NodeRows]) -> Result<u32, NoMemory>
     requires earlier { All (λ input. input < length done.now) inputs.now }
     requires good { IsGood op.now (inputs_in done.now inputs.now) }
     ensures { IfOk result (λ width. width ≡ width_by op.now (map (λ bag. bag.width) (inputs_in done.now inputs.now))) }
@@ -72,7 +51,7 @@ fn width_over(
     Ok(op.width(widths.as_slice()) as u32)
 }
 
-fn widths_of(alloc: Global, inputs: &[u32], done: &[NodeRows<'_>]) -> Result<Vec<u32>, NoMemory>
+fn widths_of(alloc: Global, inputs: &[u32], done: &[NodeRows]) -> Result<Vec<u32>, NoMemory>
     requires { All (λ input. input < length done.now) inputs.now }
     ensures { IfOk result (λ widths. widths.items ≡ map (λ bag. bag.width) (inputs_in done.now inputs.now)) }
 {
@@ -83,7 +62,7 @@ fn widths_of(alloc: Global, inputs: &[u32], done: &[NodeRows<'_>]) -> Result<Vec
     Ok(widths)
 }
 
-fn width_of(done: &[NodeRows<'_>], input: u32) -> u32
+fn width_of(done: &[NodeRows], input: u32) -> u32
     requires { input < length done.now }
     ensures { result ≡ (bag_at (map as_bag done.now) input).width }
 {
@@ -97,7 +76,7 @@ fn rows_over(
     inputs: &[u32],
     place: usize,
     last: &[usize],
-    done: &mut Vec<NodeRows<'_>>,
+    done: &mut Vec<NodeRows>,
     text: &mut Bytes,
 ) -> Result<Rows, NoMemory>
     requires some { 0 < length inputs.now }
@@ -127,7 +106,7 @@ fn join_rows(
     inputs: &[u32],
     place: usize,
     last: &[usize],
-    done: &mut Vec<NodeRows<'_>>,
+    done: &mut Vec<NodeRows>,
 ) -> Result<Rows, NoMemory>
     requires two { length inputs.now ≡ 2 }
     requires earlier { All (λ input. input < length done.old.items) inputs.now }
@@ -137,8 +116,6 @@ fn join_rows(
 {
     let left = inputs[0];
     let right = inputs[1];
-    read_node(alloc, left, done)?;
-    read_node(alloc, right, done)?;
     if are_done(place, last, left, right) {
         return join_taken(alloc, kind, keys, left, right, done);
     }
@@ -148,9 +125,9 @@ fn join_rows(
     Ok(rows)
 }
 
-// Whether nobody takes the rows of the two nodes again: they are not one node, and no node behind this
-// place takes either.
-fn are_done(place: usize, last: &[usize], left: u32, right: u32) -> bool
+/// Whether nobody takes the rows of the two nodes again: they are not one node, and no node behind this
+/// place takes either.
+pub fn are_done(place: usize, last: &[usize], left: u32, right: u32) -> bool
     ensures apart { IsTrue result → left ≢ right }
     ensures left { IsTrue result → get_or last.now left 0 ≤ place }
     ensures right { IsTrue result → get_or last.now right 0 ≤ place }
@@ -158,19 +135,17 @@ fn are_done(place: usize, last: &[usize], left: u32, right: u32) -> bool
     left != right && takes_last(place, last, left) && takes_last(place, last, right)
 }
 
-// The join of two nodes whose rows are read, and are moved out of both.
+// The join of two nodes whose rows are moved out of both.
 fn join_taken(
     alloc: Global,
     kind: JoinKind,
     keys: &KeyPairs,
     left: u32,
     right: u32,
-    done: &mut Vec<NodeRows<'_>>,
+    done: &mut Vec<NodeRows>,
 ) -> Result<Rows, NoMemory>
     requires left { left < length done.old.items }
     requires right { right < length done.old.items }
-    requires left_read { IsRead done.old.items left }
-    requires right_read { IsRead done.old.items right }
     requires apart { left ≢ right }
     ensures rows { let first = bag_at (map as_bag done.old.items) left in let second = bag_at (map as_bag done.old.items) right in
         IfOk result (λ rows. SameBag rows (joined keys.now first.width second.width first.rows second.rows kind)) }
@@ -182,19 +157,17 @@ fn join_taken(
     join_owned(alloc, kind, keys, widths, left_rows, right_rows)
 }
 
-// The join of two nodes whose rows are read.
+// The join of two nodes.
 fn join_read(
     alloc: Global,
     kind: JoinKind,
     keys: &KeyPairs,
     left: u32,
     right: u32,
-    done: &[NodeRows<'_>],
+    done: &[NodeRows],
 ) -> Result<Rows, NoMemory>
     requires left { left < length done.now }
     requires right { right < length done.now }
-    requires left_read { IsRead done.now left }
-    requires right_read { IsRead done.now right }
     ensures { let first = bag_at (map as_bag done.now) left in let second = bag_at (map as_bag done.now) right in
         IfOk result (λ rows. SameBag rows (joined keys.now first.width second.width first.rows second.rows kind)) }
 {
@@ -208,7 +181,8 @@ fn join_read(
     )
 }
 
-fn join_widths(done: &[NodeRows<'_>], left: u32, right: u32) -> Widths
+/// How many values the rows of the two nodes have.
+pub fn join_widths(done: &[NodeRows], left: u32, right: u32) -> Widths
     requires left { left < length done.now }
     requires right { right < length done.now }
     ensures left { result.left ≡ (bag_at (map as_bag done.now) left).width }

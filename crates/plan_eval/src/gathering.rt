@@ -3,7 +3,7 @@ ghost use Rattle.std.specs.List.{flat_map};
 ghost use Rattle.plan_model.specs.Plans.{bag_at};
 ghost use Rattle.plan_eval.specs.Evaluated.{Keeps, LosesOnly, as_bag, inputs_in};
 
-use crate::done::{read_node, rows_of, take_node};
+use crate::done::{rows_of, take_node};
 use crate::node_rows::NodeRows;
 use crate::takers::takes_last;
 use row_core::{NoMemory, Row, Rows};
@@ -15,7 +15,7 @@ pub fn concatenated(
     inputs: &[u32],
     place: usize,
     last: &[usize],
-    done: &mut Vec<NodeRows<'_>>,
+    done: &mut Vec<NodeRows>,
 ) -> Result<Rows, NoMemory>
     requires { All (λ input. input < length done.old.items) inputs.now }
     ensures rows { IfOk result (λ rows. rows ≡ flat_map (λ bag. bag.rows) (inputs_in done.old.items inputs.now)) }
@@ -29,9 +29,9 @@ pub fn concatenated(
     Ok(Rows::from_vec(rows))
 }
 
-// Whether nobody takes the rows of the input again: no node behind this place, and none of the further
-// inputs, of which there are at most 63.
-fn is_done(place: usize, last: &[usize], input: u32, further: &[u32]) -> bool
+/// Whether nobody takes the rows of the input again: no node behind this place, and none of the further
+/// inputs, of which there are at most 63.
+pub fn is_done(place: usize, last: &[usize], input: u32, further: &[u32]) -> bool
     ensures later { IsTrue result → get_or last.now input 0 ≤ place }
     ensures again { IsTrue result → All (λ other. other ≢ input) further.now }
 {
@@ -44,14 +44,13 @@ fn add_node(
     input: u32,
     moves: bool,
     rows: &mut Vec<Row>,
-    done: &mut Vec<NodeRows<'_>>,
+    done: &mut Vec<NodeRows>,
 ) -> Result<(), NoMemory>
     requires { input < length done.old.items }
     ensures rows { OnOk result (rows.new.items ≡ rows.old.items ++ (bag_at (map as_bag done.old.items) input).rows) }
     ensures kept { OnOk result (moves ≡ false → map as_bag done.new.items ≡ map as_bag done.old.items) }
     ensures lost { OnOk result (LosesOnly input done.old.items done.new.items) }
 {
-    read_node(alloc, input, done)?;
     if moves {
         let mut more = take_node(alloc, input, done).into_vec();
         rows.append(&mut more)

@@ -4,20 +4,29 @@
 
 mod answering;
 mod applying;
+mod by_part;
 mod chain;
 mod done;
 mod evaluation;
+mod file_part;
 mod files;
 mod found;
 mod gathering;
 mod laws;
+mod made;
 mod making;
 mod node_rows;
+mod over_chain;
+mod parts;
 mod reading;
+mod ready_step;
 mod sections;
+mod sources;
+mod step;
 mod table_files;
 mod table_rows;
 mod takers;
+mod taking;
 #[cfg(test)]
 mod tests;
 mod unread;

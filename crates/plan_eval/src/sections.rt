@@ -1,10 +1,9 @@
 ghost use Rattle.std.specs.Prelude.{◌≡◌, ◌<◌, ◌++◌, ◌∷◌, [], true, false, IfOk, OnOk, codes, length, map};
 ghost use Rattle.plan_model.specs.Plans.{bag_at};
 ghost use Rattle.plan_model.specs.Sinks.{sorted_lines};
-ghost use Rattle.plan_eval.specs.Evaluated.{IsRead, Keeps, as_bag, bags_found};
+ghost use Rattle.plan_eval.specs.Evaluated.{Keeps, as_bag};
 
-use crate::done::{read_node, rows_of, take_node};
-use crate::found::Found;
+use crate::done::{rows_of, take_node};
 use crate::node_rows::NodeRows;
 use crate::takers::takes_last;
 use csv_tables::{sink_text, sink_text_owned};
@@ -19,45 +18,19 @@ pub fn write_section(
     input: u32,
     place: usize,
     last: &[usize],
-    done: &mut Vec<NodeRows<'_>>,
+    done: &mut Vec<NodeRows>,
     text: &mut Bytes,
 ) -> Result<(), NoMemory>
     requires { input < length done.old.items }
     ensures text { OnOk result (text.new ≡ text.old ++ (codes "sink " ++ name.now ++ (10 ∷ sorted_lines (bag_at (map as_bag done.old.items) input).rows))) }
     ensures kept { OnOk result (Keeps place last.now done.old.items done.new.items) }
 {
-    read_node(alloc, input, done)?;
     let lines = lines_of(alloc, input, place, last, done)?;
     add_section(name, &lines, text)
 }
 
-/// Adds the text of a sink that alone takes what a chain is yet to give. Whether this is so is told, and
-/// nothing is added otherwise.
-pub fn write_chain(
-    alloc: Global,
-    name: &Bytes,
-    input: u32,
-    place: usize,
-    last: &[usize],
-    found: &Found<'_>,
-    text: &mut Bytes,
-) -> Result<bool, NoMemory>
-    requires within { input < length found.now.done.items }
-    requires long { length found.now.chains.items ≡ length found.now.done.items }
-    ensures none { IfOk result (λ written. written ≡ false → text.new ≡ text.old) }
-    ensures text { IfOk result (λ written. written ≡ true
-        → text.new ≡ text.old ++ (codes "sink " ++ name.now ++ (10 ∷ sorted_lines (bag_at (bags_found found.now.done.items found.now.chains.items) input).rows))) }
-{
-    if takes_last(place, last, input)
-        && let Some(chain) = &found.chains[input as usize]
-    {
-        add_section(name, &chain.text(alloc)?, text)?;
-        return Ok(true);
-    }
-    Ok(false)
-}
-
-fn add_section(name: &Bytes, lines: &Bytes, text: &mut Bytes) -> Result<(), NoMemory>
+/// Adds a line with the sink's name, and then its lines.
+pub fn add_section(name: &Bytes, lines: &Bytes, text: &mut Bytes) -> Result<(), NoMemory>
     ensures { OnOk result (text.new ≡ text.old ++ (codes "sink " ++ name.now ++ (10 ∷ lines.now))) }
 {
     write_name(name, text)?;
@@ -73,16 +46,15 @@ fn write_name(name: &Bytes, text: &mut Bytes) -> Result<(), NoMemory>
     text.push(b'\n')
 }
 
-// The lines of a node whose rows are read.
+// The lines of a node.
 fn lines_of(
     alloc: Global,
     input: u32,
     place: usize,
     last: &[usize],
-    done: &mut Vec<NodeRows<'_>>,
+    done: &mut Vec<NodeRows>,
 ) -> Result<Bytes, NoMemory>
-    requires within { input < length done.old.items }
-    requires read { IsRead done.old.items input }
+    requires { input < length done.old.items }
     ensures lines { IfOk result (λ lines. lines ≡ sorted_lines (bag_at (map as_bag done.old.items) input).rows) }
     ensures kept { OnOk result (Keeps place last.now done.old.items done.new.items) }
 {

@@ -1,14 +1,14 @@
 ghost use Rattle.std.specs.Prelude.{◌≡◌, IfOk, map};
 ghost use Rattle.std.specs.List.{flat_map};
 ghost use Rattle.plan_model.specs.Tables.{table_rows};
-ghost use Rattle.plan_eval.specs.Evaluated.{rows_unread};
+ghost use Rattle.plan_eval.specs.Chains.{rows_unread};
 ghost use Rattle.plan_eval.specs.Tables.{files_of};
 
 use crate::TableRows;
-use crate::reading::{kinds_of, read_files};
+use crate::reading::kinds_of;
 use crate::table_rows::files_in;
 use plan_model::{Kinds, Schema};
-use row_core::{Bytes, NoMemory, Rows};
+use row_core::{Bytes, NoMemory};
 use std::alloc::Global;
 
 /// The rows of a source that are yet to be read from its table's files.
@@ -36,13 +36,6 @@ impl<'a> Unread<'a> {
             }),
             None => Ok(Unread { files: &[], kinds }),
         }
-    }
-
-    /// The rows, those of one file after the other.
-    pub fn rows(&self, alloc: Global) -> Result<Rows, NoMemory>
-        ensures { IfOk result (λ rows. rows ≡ rows_unread self.now) }
-    {
-        read_files(alloc, self.files, &self.kinds)
     }
 
     /// The same rows, of which nothing is read either.

@@ -1,14 +1,14 @@
-use Rattle.std.proofs.Common.{◌≡◌, ℕ, ◌+◌, ◌<◌, List, [], ◌∷◌, ◌++◌, length, map, take, get_or, arith, slice_get, slice_index_or, sym, ap, subst, ◌∙◌}
+use Rattle.std.proofs.Common.{◌≡◌, ℕ, ◌+◌, ◌<◌, List, [], ◌∷◌, ◌++◌, length, map, take, arith, slice_get, slice_index_or, sym, ap, subst, ◌∙◌}
 use Rattle.std.proofs.lemmas.List.{take_more, take_all}
 use Rattle.plan_model.specs.Checks.{node_kinds}
 use Rattle.plan_model.specs.Plans.{Bag, bag_at, committed_text, sink_section}
 use Rattle.plan_model.specs.declared.node.Node.{Node}
 use Rattle.plan_model.specs.declared.plan_kind.PlanKind.{PlanKind}
 use Rattle.plan_model.proofs.Told.{told-next}
-use Rattle.plan_eval.specs.Evaluated.{KeepsBags, as_bag, bags_found, with_chain}
+use Rattle.plan_eval.specs.Evaluated.{KeepsBags, bag_made, bags_found}
 use Rattle.plan_eval.specs.Tables.{files_of}
 use Rattle.plan_eval.specs.declared.node_rows.NodeRows.{NodeRows}
-use Rattle.plan_eval.proofs.Chains.{chain_width, found_long}
+use Rattle.plan_eval.proofs.Chains.{found_long}
 use Rattle.plan_eval.proofs.Sound.{IsSound, sound_here, none_here, none_told}
 use Rattle.plan_eval.proofs.Steps.{IsEvaluated, earlier, good, text_more, one_more, none_evaluated, long_found}
 use Rattle.plan_eval.proofs.Taken.{taken_here}
@@ -59,7 +59,7 @@ loop-node-preserved c =
     let taken = taken_here nodes last k node c.in_ok-last.ensures lt c.node-item.is sound in
     let more : take (k + 1) nodes ≡ before ++ node ∷ [] = one_taken nodes k node lt c.node-item.is in
     let made = c.in_ok-made.made in
-    let bag = with_chain made.chain (as_bag made.node) in
+    let bag = bag_made made in
     let place : c.len-place.result ≡ length before =
     c.len-place.ensures ∙ done_long found.done ∙ sym (found_long found.done.items found.chains.items) ∙ long_found files last before bags so_far in
     let kept : KeepsBags (length before) last bags stays =
@@ -70,8 +70,8 @@ loop-node-preserved c =
           (ap (λ (kinds : List PlanKind). slice_get kinds 0) (none_here nodes k node lt c.node-item.is c.loop-node.invariant.told)) ∙ c.loop-node.invariant.told;
       evaluated = subst (λ (nodes : List Node). IsEvaluated files last nodes (bags_found c.push.new.self.done.items c.push.new.self.chains.items)) (sym more)
           (subst (λ (bags : List Bag). IsEvaluated files last (before ++ node ∷ []) bags) (sym c.in_ok-push.ensures.bags)
-          (one_more files last before bags so_far node sound taken bag (chain_width made.chain (as_bag made.node) ∙ c.in_ok-made.ensures.width) c.in_ok-made.ensures.rows stays kept));
-      long = c.in_ok-push.ensures.long;
+          (one_more files last before bags so_far node sound taken bag c.in_ok-made.ensures.made.width c.in_ok-made.ensures.made.rows stays kept));
+      places = c.in_ok-push.ensures.places;
       written = c.in_ok-made.ensures.text
           ∙ (λ i. c.loop-node.invariant.written i ++ sink_section node.op (bag_at (map (bag_at bags) node.inputs) 0))
           ∙ sym (text_more files last before bags so_far node sound taken)
@@ -86,7 +86,7 @@ loop-node-init c = record {
   told = none_told c.nodes-nodes.result.now c.nodes-nodes.ensures.faultless;
   evaluated = subst (λ (bags : List Bag). IsEvaluated (files_of c.args.tables.now) c.in_ok-last.last.items [] bags) (sym c.in_ok-found.ensures.none)
       (none_evaluated (files_of c.args.tables.now) c.in_ok-last.last.items);
-  long = c.in_ok-found.ensures.long;
+  places = c.in_ok-found.ensures.places;
   written = c.new-text.ensures;
 }
 

@@ -11,6 +11,6 @@ abbrev pub invariant-loop-node : goal.invariant-loop-node
 invariant-loop-node l = record {
   told : from node_kinds l.nodes l.node-index ≡ None;
   evaluated : IsEvaluated (files_of l.tables) l.last.items (take l.node-index l.nodes) (bags_found l.found.done.items l.found.chains.items);
-  long : length l.found.chains.items ≡ length l.found.done.items;
+  places : length l.found.chains.items ≡ length l.found.done.items;
   written : l.text ≡ committed_text (files_of l.tables) (take l.node-index l.nodes);
 }

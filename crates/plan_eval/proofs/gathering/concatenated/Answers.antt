@@ -4,7 +4,7 @@ use Rattle.std.proofs.lemmas.List.Folds.{flat_map-map}
 use Rattle.std.specs.List.{flat_map}
 use Rattle.plan_model.specs.Plans.{Bag, bag_at}
 use Rattle.plan_eval.specs.Evaluated.{as_bag}
-use Rattle.plan_eval.proofs.ByFile.{one_file_more}
+use Rattle.plan_eval.proofs.ByPart.{one_file_more}
 use Rattle.plan_eval.proofs.Gathered.{input_there, still_kept, still_there}
 use Rattle.plan_eval.proofs.Slots.{keeps_all, long_kept}
 use Rattle.plan_eval.proofs.gathering.concatenated.Goals as goal

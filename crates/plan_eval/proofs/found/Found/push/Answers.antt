@@ -6,4 +6,4 @@ use Rattle.plan_eval.proofs.found.Found.push.Goals as goal
 pub returns-clause-bags : goal.returns-clause-bags
 returns-clause-bags c =
     (λ i. bags_found (c.in_ok-push.ensures.items i) (c.in_ok-push-2.ensures.items i))
-    ∙ one_found c.args.self.now.done.items c.args.self.now.chains.items c.args.node c.args.chain c.requires
+    ∙ one_found c.args.self.now.done.items c.args.self.now.chains.items c.args.made.node c.args.made.chain c.requires
