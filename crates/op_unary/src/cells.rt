@@ -1,4 +1,4 @@
-ghost use Rattle.std.specs.Prelude.{◌≡◌, [], get_or, map, IfOk};
+ghost use Rattle.std.specs.Prelude.{◌≡◌, get_or, IfOk};
 ghost use Rattle.row_core.specs.Values.{value_cmp};
 ghost use Rattle.row_core.specs.declared.value.Value.TheVariants.{Null};
 ghost use Rattle.op_unary.specs.Cells.{or_null};
@@ -12,16 +12,6 @@ pub fn cell(row: &Row, column: u32) -> Option<&Value>
     ensures { or_null result ≡ get_or row.now column Null }
 {
     row.as_slice().get(column as usize)
-}
-
-/// The value in a column of the first row, none where there is no row.
-pub fn first_cell<'a>(rows: &[&'a Row], column: u32) -> Option<&'a Value>
-    ensures { or_null result ≡ get_or (get_or (map (λ row. row.now) rows.now) 0 []) column Null }
-{
-    match rows.first() {
-        Some(row) => cell(row, column),
-        None => None,
-    }
 }
 
 /// The order of two values, where none is as Null.
