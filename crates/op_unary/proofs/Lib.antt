@@ -4,6 +4,8 @@ pub mod ByHash
 pub mod Deduped
 pub mod Firsts
 pub mod Marks
+pub mod Places
+pub mod Rising
 pub mod Runs
 pub mod Pieces
 pub mod Sums

@@ -1,7 +1,8 @@
 -- Rows with a mark, as marks are set one after another.
-use Rattle.std.proofs.Common.{◌≡◌, ℕ, zero, suc, ◌+◌, ◌<◌, min, Bool, true, false, List, [], ◌∷◌, ◌++◌, length, map, take, drop, get_or, cond, refl, sym, subst, inl, inr, ◌∙◌, ap, arith}
+use Rattle.std.proofs.Common.{◌≡◌, ℕ, zero, suc, ◌+◌, ◌<◌, min, Bool, true, false, All, List, [], ◌∷◌, ◌++◌, length, map, take, drop, get_or, cond, refl, sym, subst, inl, inr, ◌∙◌, ap, arith}
 use Rattle.std.proofs.lemmas.Bool.{cases_Bool}
 use Rattle.std.proofs.lemmas.List.{map-append, take_more, take-append-drop, append_assoc}
+use Rattle.std.proofs.lemmas.List.Elements.{All-nil, All-cons, All-append}
 use Rattle.std.specs.List.{items_where_true}
 use Rattle.std.specs.List.Retain.{IsFiltered, ReturnsInTurn}
 use Rattle.std.proofs.Math.ListN.{set}
@@ -36,6 +37,29 @@ mark_gives (true ∷ marks) (row ∷ rows) (suc place) same lt none =
     swapped : (a b n : ℕ) → a + (b + n) ≡ b + (a + n)
     swapped a b n = omega arith
 mark_gives (false ∷ marks) (row ∷ rows) (suc place) same lt none = mark_gives marks rows place (omega arith) (omega arith) none
+
+-- what is marked stays so
+set_stays : (marks : List Bool) (place other : ℕ) → get_or marks other false ≡ true → get_or (set marks place true) other false ≡ true
+set_stays [] place other is = cc
+set_stays (mark ∷ marks) zero zero is = refl
+set_stays (mark ∷ marks) zero (suc other) is = is
+set_stays (mark ∷ marks) (suc place) zero is = is
+set_stays (mark ∷ marks) (suc place) (suc other) is = set_stays marks place other is
+
+is_set : (marks : List Bool) (place : ℕ) → place < length marks → get_or (set marks place true) place false ≡ true
+is_set [] place lt = absurd (omega arith)
+is_set (mark ∷ marks) zero lt = refl
+is_set (mark ∷ marks) (suc place) lt = is_set marks place (omega arith)
+
+-- of things with places, one more is marked
+pub set_more : {X : Type 0} (place : X → ℕ) (marks : List Bool) (xs : List X) (i : ℕ) (d : X) → i < length xs → place (get_or xs i d) < length marks
+    → All (λ x. get_or marks (place x) false ≡ true) (take i xs) → All (λ x. get_or (set marks (place (get_or xs i d)) true) (place x) false ≡ true) (take (i + 1) xs)
+set_more place marks xs i d lt within before =
+    let x = get_or xs i d in
+    let marked = λ (y : _). get_or (set marks (place x) true) (place y) false ≡ true in
+    subst (λ (l : List _). All marked l) (sym (take_more xs i d lt))
+    (All-append marked (take i xs) (x ∷ []) (λ k e less. set_stays marks (place x) (place (get_or (take i xs) k e)) (before k e less))
+    (All-cons marked x [] (is_set marks (place x) within) (All-nil marked)))
 
 -- a marked row is among those with a mark
 pub marked_counts : (marks : List Bool) (rows : List Row) (place : ℕ) → length marks ≡ length rows → place < length rows → get_or marks place false ≡ true

@@ -45,13 +45,16 @@ one_each : (xs : List Row) → total (λ x. 1) xs ≡ length xs
 one_each [] = refl
 one_each (x ∷ xs) = let rest = one_each xs in omega arith
 
+-- bags that are the same are equally large
+pub as_long : (xs ys : List Row) → SameBag xs ys → length xs ≡ length ys
+as_long xs ys same = sym (one_each xs) ∙ total-same (λ x. 1) xs ys same ∙ one_each ys
+
 -- nothing stands twice in one of each
 pub all_distinct : (kept rows : List Row) → SameBag kept (one_of_each rows) → length kept ≤ length (one_of_each kept)
 all_distinct kept rows same =
-    let both : length kept ≡ length (one_of_each kept) =
-    sym (one_each kept) ∙ total-same (λ x. 1) kept (one_of_each rows) same
-    ∙ sym (total-same (λ x. 1) (one_of_each kept) (one_of_each rows) (again kept rows same)) ∙ one_each (one_of_each kept) in
-    omega arith
+    let here = as_long kept (one_of_each rows) same in
+    let there = as_long (one_of_each kept) (one_of_each rows) (again kept rows same) in
+    omega (arith, here, there)
 
 total-filter : (w : Row → ℕ) (p : Row → Bool) (xs : List Row) → total w (filter p xs) ≡ total (λ x. cond (p x) (w x) 0) xs
 total-filter w p [] = refl

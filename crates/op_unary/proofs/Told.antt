@@ -6,9 +6,9 @@ use Rattle.std.proofs.lemmas.List.Sorted.{All-permutation, IsPermutation-keeps, 
 use Rattle.std.specs.List.{flat_map, swap}
 use Rattle.std.proofs.Math.ListN.{set}
 use Rattle.std.specs.List.Sorted.{IsPermutation}
-use Rattle.row_core.specs.Bags.{SameBag}
+use Rattle.row_core.specs.Bags.{SameBag, one_of_each}
 use Rattle.row_core.specs.Values.{same_row}
-use Rattle.plan_model.specs.Operators.{aggregated, key_of}
+use Rattle.plan_model.specs.Operators.{agg_value, aggregated, key_of, rows_with}
 use Rattle.plan_model.specs.declared.agg.Agg.{Agg}
 use Rattle.bag_laws.specs.Rows.{OneRow as Row, AreApart}
 use Rattle.bag_laws.proofs.Alike.{same_refl, same_sym, same_on, by_weights}
@@ -16,10 +16,11 @@ use Rattle.bag_laws.proofs.Counts.{SameBag-append}
 use Rattle.bag_laws.proofs.Orders.{rows_strict}
 use Rattle.bag_laws.proofs.Permutations.{permutation_of_same}
 use Rattle.bag_laws.proofs.Totals.{total, total_is, total-flat_map}
-use Rattle.op_unary.specs.Groups.{AllDiffer, AreTold, TellsOf}
+use Rattle.op_unary.specs.Groups.{AllDiffer, AreTold, TellsOf, key_count}
 use Rattle.op_unary.specs.Partials.{told}
 use Rattle.op_unary.specs.declared.group.Group.{Group}
 use Rattle.op_unary.proofs.Joins.{all_told}
+use Rattle.op_unary.proofs.Parts.{as_long}
 use Rattle.op_unary.proofs.Runs.{one_group}
 use Rattle.op_unary.proofs.Sames.{aggregated_keyed}
 
@@ -164,3 +165,10 @@ module _ (keys : List ℕ) (aggs : List Agg) where
       subst (λ (l : List Row). SameBag (aggregated keys aggs (t.0 ++ t.1)) (l ++ aggregated keys aggs t.1)) (one_row g t.0 t.2) (keyed.splits t.0 t.1 apart) in
       same_on (SameBag-append (row_of g ∷ []) (map row_of gs) (row_of g ∷ []) (aggregated keys aggs t.1) (same_refl (row_of g ∷ [])) (made_of gs t.1 t.3 differ.1))
       (same_sym (same_on (keyed.same rows (t.0 ++ t.1) t.4) split))
+
+  -- one for each key
+  pub as_many : (gs : List Group) (rows : List Row) → AreTold keys aggs gs rows → AllDiffer (map (λ group. group.key) gs) → length gs ≡ key_count keys rows
+  as_many gs rows t differ =
+      sym (length-map gs row_of)
+      ∙ as_long (map row_of gs) (aggregated keys aggs rows) (made_of gs rows t differ)
+      ∙ length-map (one_of_each (map (key_of keys) rows)) (λ key. key ++ map (agg_value (rows_with keys key rows)) aggs)

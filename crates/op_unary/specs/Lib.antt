@@ -1,5 +1,6 @@
 pub mod Applied
 pub mod Cells
+pub mod Distinct
 pub mod Hashes
 pub mod Partials
 pub mod Groups

@@ -1,30 +1,35 @@
 ghost use Rattle.std.specs.Prelude.{◌≡◌, ◌*◌, ◌≤◌, [], ◌++◌, length, IfOk};
 ghost use Rattle.row_core.specs.Bags.{SameBag, one_of_each};
+ghost use Rattle.op_unary.specs.Distinct.{IsOrder};
 
-use crate::each_once::distinct_owned;
+use crate::first_places::first_places;
+use crate::marking::{keep_marked, mark, renumbered};
+use crate::placed::Placed;
 use row_core::{NoMemory, Rows};
 use std::alloc::Global;
 use std::marker::Model;
 
 /// One of each of rows that come part by part, so that a caller need not hold them all. Repeated rows are let go from
-/// time to time: whenever the rows are at least twice as many as were left the last time.
+/// time to time: whenever a quarter as many rows have come as were left the last time.
 #[derive(Drop)]
 pub struct DistinctRows {
-    kept: Rows,
-    // how many of them were left the last time
-    settled: usize,
+    // those that were left the last time, and behind them those that came since
+    rows: Rows,
+    // the places of those that were left, by hash, so that they need not be sorted anew
+    order: Vec<Placed>,
 }
 
 impl Model for DistinctRows {
     ghost use Rattle.std.specs.Prelude.{◌≤◌, List, length};
     ghost use Rattle.row_core.specs.Bags.{one_of_each};
     ghost use Rattle.row_core.specs.declared.value.Value.{Value as OneValue};
+    ghost use Rattle.op_unary.specs.Distinct.{IsOrder};
 
     ghost Value = { List (List OneValue) };
 
-    ghost view = { λ d. d.kept };
+    ghost view = { λ d. d.rows };
 
-    ghost invariant = { λ d. d.settled ≤ length (one_of_each d.kept) };
+    ghost invariant = { λ d. IsOrder d.rows d.order.items × (length d.order.items ≤ length (one_of_each d.rows)) };
 }
 
 impl DistinctRows {
@@ -32,41 +37,49 @@ impl DistinctRows {
         ensures { result ≡ [] }
     {
         DistinctRows {
-            kept: Rows::new(alloc),
-            settled: 0,
+            rows: Rows::new(alloc),
+            order: Vec::new(alloc),
         }
     }
 
-    /// These and further rows. No more than twice as many stay as are distinct.
+    /// These and further rows. No more than five for every four that are distinct stay.
     pub fn with_rows(self, alloc: Global, rows: Rows) -> Result<Self, NoMemory>
         ensures same { IfOk result (λ kept. SameBag (one_of_each kept) (one_of_each (self ++ rows))) }
-        ensures few { IfOk result (λ kept. length kept ≤ 2 * length (one_of_each kept)) }
+        ensures few { IfOk result (λ kept. 4 * length kept ≤ 5 * length (one_of_each kept)) }
     {
-        let settled = self.settled;
-        let kept = joined(self.kept, rows)?;
-        if kept.len() < settled.saturating_mul(2) {
-            Ok(DistinctRows { kept, settled })
-        } else {
-            settle(alloc, kept)
+        let order = self.order;
+        let rows = joined(self.rows, rows)?;
+        if rows.len() < order.len().saturating_add(order.len() / 4) {
+            return Ok(DistinctRows { rows, order });
         }
+        settle(alloc, rows, order)
     }
 
     /// One of each.
     pub fn into_rows(self, alloc: Global) -> Result<Rows, NoMemory>
         ensures { IfOk result (λ rows. SameBag rows (one_of_each self)) }
     {
-        distinct_owned(alloc, self.kept)
+        Ok(settle(alloc, self.rows, self.order)?.rows)
     }
 }
 
-// One of each of these alone.
-fn settle(alloc: Global, rows: Rows) -> Result<DistinctRows, NoMemory>
-    ensures same { IfOk result (λ kept. SameBag (one_of_each kept) (one_of_each rows)) }
-    ensures few { IfOk result (λ kept. length kept ≤ length (one_of_each kept)) }
+/// One of each row, of rows that are the call's own: they keep their order, the others are let go, and none is copied.
+pub fn distinct_owned(alloc: Global, rows: Rows) -> Result<Rows, NoMemory>
+    ensures { IfOk result (λ kept. SameBag kept (one_of_each rows)) }
 {
-    let kept = distinct_owned(alloc, rows)?;
-    let settled = kept.len();
-    Ok(DistinctRows { kept, settled })
+    Ok(settle(alloc, rows, Vec::new(alloc))?.rows)
+}
+
+// One of each, where the first of the rows are in this order.
+fn settle(alloc: Global, rows: Rows, order: Vec<Placed>) -> Result<DistinctRows, NoMemory>
+    requires { IsOrder rows order.items }
+    ensures { IfOk result (λ kept. SameBag kept (one_of_each rows)) }
+{
+    let firsts = first_places(rows.as_slice(), order)?;
+    let marks = mark(alloc, rows.as_slice(), firsts.as_slice())?;
+    let order = renumbered(alloc, marks.as_slice(), firsts.as_slice())?;
+    let rows = keep_marked(rows, marks);
+    Ok(DistinctRows { rows, order })
 }
 
 // The rows of both, in their order.

@@ -23,6 +23,7 @@ pub struct Groups<'a> {
     keys: &'a [u32],
     aggs: &'a [Agg],
     groups: Vec<Group>,
+    // how many of them there were when they were last combined, one for each key
     settled: usize,
 }
 
@@ -60,7 +61,7 @@ impl<'a> Groups<'a> {
         } = self;
         let sorted = by_key(alloc, keys, rows)?;
         let groups = with_runs(alloc, keys, aggs, groups, sorted.as_slice())?;
-        if groups.len() / 2 < settled.max(FEW) {
+        if groups.len() < settled.max(FEW).saturating_mul(2) {
             return Ok(Groups {
                 keys,
                 aggs,

@@ -5,7 +5,8 @@ ghost use Rattle.op_unary.specs.Applied.{applied, is_unary};
 
 use crate::aggregating::aggregate;
 use crate::cells::copies;
-use crate::each_once::{distinct, distinct_owned};
+use crate::distinct_rows::distinct_owned;
+use crate::each_once::distinct;
 use crate::exploding::{explode, explode_owned};
 use crate::filtering::{filter, filter_owned};
 use crate::projecting::{project, project_owned};

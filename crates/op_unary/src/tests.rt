@@ -2,6 +2,7 @@ ghost use Rattle.std.specs.Prelude.{◌∷◌, [], All, IsTrue, length};
 ghost use Rattle.plan_model.specs.Checks.{columns_fit};
 ghost use Rattle.op_unary.specs.Applied.{is_unary};
 
+use crate::hashing::hash_row;
 use crate::{DistinctRows, Groups, apply, apply_owned};
 use plan_model::{Agg, Aggs, Exprs, Op};
 use row_core::{Bytes, Cmp, Columns, Expr, NoMemory, Pred, Row, Rows, Value};
@@ -212,6 +213,22 @@ fn distinct_rows_come_part_by_part(rt: HostRuntime) -> Result<(), Fail> {
     )?;
     check_distinct(&rt, alloc, &["", "b;b;b;", "b;"], "b;")?;
     check_distinct(&rt, alloc, &[], "")?;
+    Ok(())
+}
+
+// Two rows with one hash, so that equal rows need not stand together once they are sorted by hashes.
+#[test]
+fn distinct_looks_at_rows_with_one_hash(rt: HostRuntime) -> Result<(), Fail> {
+    let alloc = rt.alloc();
+    let all = "#1 #2;#3 #3153399348841044;#1 #2;#3 #3153399348841044;";
+    let rows = read_rows(alloc, all)?;
+    assert_eq!(rt; rows.len(), 4);
+    if let [one, other, ..] = rows.as_slice() {
+        assert_eq!(rt; hash_row(one), hash_row(other));
+    }
+    let wanted = "#1 #2;#3 #3153399348841044;";
+    check(&rt, alloc, &Op::Distinct, &[(all, wanted)])?;
+    check_distinct(&rt, alloc, &[all, all], wanted)?;
     Ok(())
 }
 

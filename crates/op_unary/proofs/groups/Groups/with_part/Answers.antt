@@ -1,14 +1,17 @@
-use Rattle.std.proofs.Common.{◌≡◌, ◌++◌, ℕ, List, map, sym, subst}
-use Rattle.row_core.specs.Bags.{SameBag}
+use Rattle.std.proofs.Common.{◌≡◌, ◌≤◌, ◌++◌, ℕ, List, length, map, sym, subst, arith}
+use Rattle.std.proofs.lemmas.List.{map-append}
+use Rattle.row_core.specs.Bags.{SameBag, one_of_each}
 use Rattle.bag_laws.specs.Rows.{OneRow as Row}
 use Rattle.bag_laws.proofs.Alike.{same_refl, same_sym}
 use Rattle.bag_laws.proofs.Counts.{SameBag-append}
 use Rattle.bag_laws.proofs.Permutations.{same_of_permutation}
+use Rattle.plan_model.specs.Operators.{key_of}
 use Rattle.plan_model.specs.declared.agg.Agg.{Agg}
-use Rattle.op_unary.specs.Groups.{AreTold}
+use Rattle.op_unary.specs.Groups.{AreTold, key_count}
 use Rattle.op_unary.specs.declared.group.Group.{Group}
 use Rattle.op_unary.specs.declared.keyed.Keyed.{Keyed}
-use Rattle.op_unary.proofs.Told.{told_bag}
+use Rattle.op_unary.proofs.Parts.{no_fewer}
+use Rattle.op_unary.proofs.Told.{as_many, told_bag}
 use Rattle.op_unary.proofs.groups.Groups.with_part.Goals.{In_ok-groups}
 use Rattle.op_unary.proofs.groups.Groups.with_part.Goals as goal
 
@@ -35,16 +38,36 @@ part_told c keys aggs before is also t =
     → AreTold c.args.self.keys.now c.args.self.aggs.now c.in_ok-groups.groups.items (before ++ map row l)) c.as_slice.ensures.value c.in_ok-groups.ensures)
     t
 
-pub returns-then-len-max : goal.returns-then-len-max
-returns-then-len-max c = λ keys aggs before stands. record {
-  by = stands.by;
-  tell = stands.tell;
-  told = part_told (goal.at.returns-then-len-max c).In_ok-groups keys aggs before stands.by stands.tell stands.told;
-}
+-- more rows have no fewer keys
+more_keys : (keys : List ℕ) (before rows : List Row) → key_count keys before ≤ key_count keys (before ++ rows)
+more_keys keys before rows =
+    subst (λ (l : List Row). key_count keys before ≤ length (one_of_each l)) (sym (map-append (key_of keys) before rows))
+    (no_fewer (map (key_of keys) before) (map (key_of keys) rows))
+
+pub returns-then-len-saturating_mul : goal.returns-then-len-saturating_mul
+returns-then-len-saturating_mul c = λ keys aggs before stands.
+    let more = more_keys keys before c.args.rows.now in
+    let settled = stands.settled in
+    let limit = c.saturating_mul.ensures in
+    let size = c.len.ensures in
+    let less = c.if-len-saturating_mul.true in
+    record {
+      by = stands.by;
+      tell = stands.tell;
+      told = part_told (goal.at.returns-then-len-saturating_mul c).In_ok-groups keys aggs before stands.by stands.tell stands.told;
+      settled = omega (arith, settled, more);
+      few = omega (arith, settled, more, limit, size, less);
+    }
 
 pub returns : goal.returns
-returns c = λ keys aggs before stands. record {
-  by = stands.by;
-  tell = stands.tell;
-  told = c.in_ok-groups-2.ensures.told keys aggs (before ++ c.args.rows.now) (part_told (goal.at.returns c).In_ok-groups keys aggs before stands.by stands.tell stands.told);
-}
+returns c = λ keys aggs before stands.
+    let told = c.in_ok-groups-2.ensures.told keys aggs (before ++ c.args.rows.now) (part_told (goal.at.returns c).In_ok-groups keys aggs before stands.by stands.tell stands.told) in
+    let many = as_many keys aggs c.in_ok-groups-2.groups.items (before ++ c.args.rows.now) told c.in_ok-groups-2.ensures.differ in
+    let size = c.len-settled.ensures in
+    record {
+      by = stands.by;
+      tell = stands.tell;
+      told = told;
+      settled = omega (arith, many, size);
+      few = omega (arith, many);
+    }

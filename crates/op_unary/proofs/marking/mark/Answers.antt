@@ -1,4 +1,4 @@
-use Rattle.std.proofs.Common.{◌≡◌, ◌∙◌, [], List, true, false, refl, get_or, length, map, rules, sym, subst, take_all}
+use Rattle.std.proofs.Common.{◌≡◌, ◌<◌, ◌∙◌, [], List, true, false, refl, get_or, length, map, rules, sym, subst, take_all, arith}
 use Rattle.std.proofs.lemmas.List.{length-set}
 use Rattle.std.proofs.lemmas.List.Elements.{All-replicate}
 use Rattle.std.proofs.Math.ListN.{replicate}
@@ -8,11 +8,9 @@ use Rattle.row_core.specs.Bags.{SameBag}
 use Rattle.bag_laws.specs.Rows.{OneRow as Row}
 use Rattle.bag_laws.proofs.Alike.{same_on, same_refl}
 use Rattle.op_unary.specs.declared.placed.Placed.{Placed}
-use Rattle.op_unary.proofs.Marks.{mark_more, none_marked}
-use Rattle.op_unary.proofs.each_once.mark.Goals as goal
-
-abbrev row_at : List Row → Placed → Row
-row_at rows placed = get_or rows placed.place []
+use Rattle.op_unary.specs.Distinct.{row_at}
+use Rattle.op_unary.proofs.Marks.{mark_more, none_marked, set_more}
+use Rattle.op_unary.proofs.marking.mark.Goals as goal
 
 pub loop-first-init : goal.loop-first-init
 loop-first-init c =
@@ -23,6 +21,7 @@ loop-first-init c =
     subst (λ (l : List Bool). All (λ b. b ≡ false) l) (sym are) (All-replicate (λ (b : Bool). b ≡ false) (length c.args.rows.now) false refl) in
     record {
       long = long;
+      set = λ k d lt. absurd (omega (arith, lt));
       marked = subst (λ (l : List Row). SameBag l []) (sym (none_marked marks c.args.rows.now (λ k lt. none k false lt))) (same_refl []);
     }
 
@@ -34,11 +33,18 @@ loop-first-preserved c =
     let i = c.loop-first.first-index in
     let lt = c.loop-first-test.true in
     let first = get_or firsts i record { hash = 0; place = 0 } in
+    let within = c.requires.places.within i record { hash = 0; place = 0 } lt in
+    let here : first.place < length marks = omega (arith, within, c.loop-first.invariant.long) in
     record {
       long = length-set marks first.place true ∙ c.loop-first.invariant.long;
+      set = set_more (λ (placed : Placed). placed.place) marks firsts i record { hash = 0; place = 0 } lt here c.loop-first.invariant.set;
       marked = mark_more (row_at rows) rows firsts c.requires.firsts marks i first.place first lt (search rules) c.loop-first.invariant.long
-          (c.requires.within i record { hash = 0; place = 0 } lt) refl c.loop-first.invariant.marked;
+          within refl c.loop-first.invariant.marked;
     }
+
+pub returns-clause-set : goal.returns-clause-set
+returns-clause-set c =
+    subst (λ (l : List Placed). All (λ first. get_or c.loop-first.marks.items first.place false ≡ true) l) (take_all c.loop-first.first-index c.args.firsts.now c.loop-first-test.false) c.loop-first.invariant.set
 
 pub returns-clause-marked : goal.returns-clause-marked
 returns-clause-marked c =

@@ -3,7 +3,7 @@ use Rattle.std.specs.List.{items_where_true}
 use Rattle.std.specs.Vec.Iter.{into_iter_items}
 use Rattle.bag_laws.specs.Rows.{OneRow as Row}
 use Rattle.op_unary.proofs.Marks.{kept_by_marks}
-use Rattle.op_unary.proofs.each_once.keep_marked.Goals as goal
+use Rattle.op_unary.proofs.marking.keep_marked.Goals as goal
 
 pub returns : goal.returns
 returns c =
