@@ -21,4 +21,3 @@ by_first rows others more same = record {
 -- and by the bag of the second
 pub by_second : (rows more further : List Row) → SameBag more further → SameBag (one_of_each (rows ++ more)) (one_of_each (rows ++ further))
 by_second rows more further same = SameBag-one_of_each (rows ++ more) (rows ++ further) (SameBag-append rows more rows further (same_refl rows) same)
-

@@ -19,7 +19,7 @@ use Rattle.plan_model.specs.Operators.{key_of}
 use Rattle.plan_model.specs.declared.join_kind.JoinKind.{JoinKind}
 use Rattle.plan_model.specs.declared.join_kind.JoinKind.TheVariants as kind
 use Rattle.operator_laws.specs.Applied.{left_columns, right_columns}
-use Rattle.operator_laws.specs.Stub.{repeats_left, repeats_right}
+use Rattle.plan_model.specs.Operators.{repeats_left, repeats_right}
 
 long : (xs ys : List Row) → SameBag xs ys → length ys ≡ length xs
 long xs ys same = length_permutation xs ys (permutation_of_same xs ys same)
@@ -206,4 +206,3 @@ matching_keys (pair ∷ keys) a b is =
     let value : get_or a pair.0 Null ≡ get_or b pair.1 Null =
     equal_values (get_or a pair.0 Null) (get_or b pair.1 Null) (and_right (not (is_null (get_or a pair.0 Null))) (same_value (get_or a pair.0 Null) (get_or b pair.1 Null)) here) in
     λ i. value i ∷ matching_keys keys a b rest i
-

@@ -8,7 +8,7 @@ use Rattle.plan_model.specs.Joins.{joined}
 use Rattle.plan_model.specs.Plans.{Bag, bag_at, bag_of, join_width}
 use Rattle.plan_model.specs.declared.op.Op.{Op}
 use Rattle.plan_model.specs.declared.op.Op.TheVariants.{Source, Filter, Project, Explode, Union, Aggregate, Distinct, Join, Sink}
-use Rattle.operator_laws.specs.Stub.{Alike}
+use Rattle.plan_model.specs.Nodes.{Alike}
 use Rattle.operator_laws.proofs.Unary.{applied_same}
 use Rattle.operator_laws.proofs.Joins.{joined_same}
 
@@ -48,4 +48,3 @@ bags_same files (Join kind keys) inputs others alike =
           (joined_same kind keys left.width right.width left.rows left'.rows right.rows right'.rows (alike 0).rows (alike 1).rows);
     }
 bags_same files (Sink name) inputs others alike = alike 0
-

@@ -17,7 +17,7 @@ use Rattle.plan_model.specs.Plans.{Bag, bag_of, bag_at}
 use Rattle.plan_model.specs.declared.op.Op.{Op}
 use Rattle.plan_model.specs.declared.op.Op.TheVariants.{Source, Filter, Project, Explode, Union, Aggregate, Distinct, Join, Sink}
 use Rattle.operator_laws.specs.Applied.{applied}
-use Rattle.operator_laws.specs.Stub.{is_unary, is_row_wise}
+use Rattle.plan_model.specs.Operators.{is_unary, is_row_wise}
 use Rattle.operator_laws.proofs.Aggregates.{aggregated_keyed}
 
 pub applied_same : (op : Op) (rows others : List Row) → SameBag rows others → SameBag (applied op rows) (applied op others)

@@ -8,7 +8,8 @@ ghost use Rattle.plan_model.specs.Sinks.{sorted_lines};
 ghost use Rattle.plan_model.specs.declared.node.Node.{Node as OneNode};
 ghost use Rattle.plan_model.specs.declared.op.Op.{Op as OneOp};
 ghost use Rattle.operator_laws.specs.Applied.{applied};
-ghost use Rattle.operator_laws.specs.Stub.{Alike, is_unary, sink_at};
+ghost use Rattle.plan_model.specs.Nodes.{Alike, sink_at};
+ghost use Rattle.plan_model.specs.Operators.{is_unary};
 
 /// The rows of a plan's node are what its operator gives on the rows of its inputs, one input after the other.
 pub fn nodes_apply()

@@ -6,7 +6,7 @@ ghost use Rattle.plan_model.specs.Joins.{joined};
 ghost use Rattle.plan_model.specs.declared.join_kind.JoinKind.{JoinKind as OneKind};
 ghost use Rattle.plan_model.specs.declared.op.Op.{Op as OneOp};
 ghost use Rattle.operator_laws.specs.Applied.{applied};
-ghost use Rattle.operator_laws.specs.Stub.{is_row_wise, repeats_left, repeats_right};
+ghost use Rattle.plan_model.specs.Operators.{is_row_wise, repeats_left, repeats_right};
 
 /// Filter, project, explode and union go row by row: what they give on a list is what they give on each row in turn,
 /// and on a sum the sum of what they give on each part.
