@@ -88,7 +88,7 @@ module _ (matches : Row → Row → Bool) (gives : Row → List Row → List Row
       ap (λ (n : ℕ). times (rects_of t input) p s * n)
       (total-where (StaysIn s) (given_in w t) (given w) (ls p s)
       (λ l stays. weighs (bags.same l (filter (matches l) (reading right rs (rects_of t other))) (filter (matches l) (whole right rs))
-      (matched t p s l lt less (λ q below within. partners p q s lt less below within (omega arith)) stays)) w)
+      (matched t p s l lt less (λ q below within. partners.each p q s lt less below within (omega arith)) stays)) w)
       (λ k d at q u below within differ. in_column.apart p s q u lt less below within differ k d at)))
       (cases_eq (times (rects_of t input) p s) 0)
 
