@@ -3,9 +3,7 @@ use Rattle.std.proofs.Common.{get_or, ◌≡◌, ℕ, ◌<◌, Bool, true, false
 use Rattle.std.specs.List.{flat_map}
 use Rattle.row_core.specs.Bags.{SameBag}
 use Rattle.bag_laws.specs.Rows.{OneRow as Row}
-use Rattle.bag_laws.proofs.Totals.{total-where, total-swap}
-use Rattle.bag_laws.proofs.Counts.{SameBag-append}
-use Rattle.bag_laws.proofs.Alike.{by_weights, weighs, flat_map-split}
+use Rattle.bag_laws.proofs.Laws.{total-where, total-swap, SameBag-append, by_weights, weighs, flat_map-split}
 use Rattle.rect_cover.specs.declared.grid.Grid.{Grid}
 use Rattle.rect_cover.specs.Cells.{Reads, rects_of, times, whole, reading, touches}
 use Rattle.rect_cover.specs.Covers.{EachOnce, HasColumns, ByColumns, IsDriven, SameColumns}
@@ -35,25 +33,29 @@ one_if_some true false m n same left right some = absurd (cc)
 pub driven_left : {left right : Grid} {input other : ℕ} {ts : List Reads} → SameColumns left input right other ts → IsDriven left input right other ts
 driven_left {left} {right} {input} {other} {ts} cover = record {
   once = once_of_columns cover.lefts;
-  partners = λ k d at p q s lt less under within some.
-      let t : Reads = get_or ts k d in
-      one_if_some (touches (rects_of t input) s) (touches (rects_of t other) s) (times (rects_of t input) p s) (times (rects_of t other) q s)
-      (cover.same k d at s (omega arith))
-      (by_touch left (rects_of t input) ((cover.lefts).full k d at) p s lt less)
-      (by_touch right (rects_of t other) ((cover.rights).full k d at) q s under within)
-      some;
+  partners = λ k d at. record {
+    each = λ p q s lt less under within some.
+        let t : Reads = get_or ts k d in
+        one_if_some (touches (rects_of t input) s) (touches (rects_of t other) s) (times (rects_of t input) p s) (times (rects_of t other) q s)
+        (cover.same k d at s (omega arith))
+        (by_touch left (rects_of t input) ((cover.lefts).full k d at) p s lt less)
+        (by_touch right (rects_of t other) ((cover.rights).full k d at) q s under within)
+        some;
+  };
 }
 
 pub driven_right : {left right : Grid} {input other : ℕ} {ts : List Reads} → SameColumns left input right other ts → IsDriven right other left input ts
 driven_right {left} {right} {input} {other} {ts} cover = record {
   once = once_of_columns cover.rights;
-  partners = λ k d at p q s lt less under within some.
-      let t : Reads = get_or ts k d in
-      one_if_some (touches (rects_of t other) s) (touches (rects_of t input) s) (times (rects_of t other) p s) (times (rects_of t input) q s)
-      (sym (cover.same k d at s (omega arith)))
-      (by_touch right (rects_of t other) ((cover.rights).full k d at) p s lt less)
-      (by_touch left (rects_of t input) ((cover.lefts).full k d at) q s under within)
-      some;
+  partners = λ k d at. record {
+    each = λ p q s lt less under within some.
+        let t : Reads = get_or ts k d in
+        one_if_some (touches (rects_of t other) s) (touches (rects_of t input) s) (times (rects_of t other) p s) (times (rects_of t input) q s)
+        (sym (cover.same k d at s (omega arith)))
+        (by_touch right (rects_of t other) ((cover.rights).full k d at) p s lt less)
+        (by_touch left (rects_of t input) ((cover.lefts).full k d at) q s under within)
+        some;
+  };
 }
 
 module _ (matches : Row → Row → Bool) (lonely : Row → List Row → List Row) (lonely_bags : GivesBags lonely)

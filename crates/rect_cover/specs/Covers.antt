@@ -1,5 +1,5 @@
 -- Which assignments are covers, cell by cell.
-use Rattle.std.specs.Prelude.{◌≡◌, ℕ, ◌*◌, ◌^◌, ◌<◌, ◌≤◌, max, List, [], ◌∷◌, ◌++◌, length, drop, slice_index_or, sum_by, count_by, All, IsTrue}
+use Rattle.std.specs.Prelude.{◌≡◌, ℕ, ◌*◌, ◌^◌, ◌<◌, ◌≤◌, max, List, [], ◌∷◌, ◌++◌, length, drop, slice_get, sum_by, count_by, All, IsTrue, Some}
 use Rattle.std.specs.List.{AllZip}
 use Rattle.rect_cover.specs.declared.rect.Rect.{Rect}
 use Rattle.rect_cover.specs.declared.grid.Grid.{Grid}
@@ -29,8 +29,9 @@ pub record EachOnce (grid : Grid) (input : ℕ) (subtasks : List Reads) : Type 0
   pub once : (p s : ℕ) → p < grid.producers → s < grid.cells → sum_by (λ subtask. times (rects_of subtask input) p s) subtasks ≡ 1
 
 -- each touched column with all its producers
-abbrev pub HasColumns : Grid → List Rect → Type 0
-HasColumns grid rects = (p s : ℕ) → p < grid.producers → s < grid.cells → IsTrue (touches rects s) → times rects p s ≡ 1
+pub record HasColumns (grid : Grid) (rects : List Rect) : Type 0 where
+  pub each : (p s : ℕ) → p < grid.producers → s < grid.cells
+      → IsTrue (touches rects s) → times rects p s ≡ 1
 
 -- each column is in exactly one subtask, whole
 pub record ByColumns (grid : Grid) (input : ℕ) (subtasks : List Reads) : Type 0 where
@@ -38,9 +39,9 @@ pub record ByColumns (grid : Grid) (input : ℕ) (subtasks : List Reads) : Type 
   pub once : (s : ℕ) → s < grid.cells → count_by (λ subtask. touches (rects_of subtask input) s) subtasks ≡ 1
 
 -- who has a left cell has every right cell of its column
-abbrev pub HasPartners : Grid → Grid → List Rect → List Rect → Type 0
-HasPartners left right lefts rights = (p q s : ℕ) → p < left.producers → s < left.cells → q < right.producers → s < right.cells
-    → 0 < times lefts p s → times rights q s ≡ 1
+pub record HasPartners (left right : Grid) (lefts rights : List Rect) : Type 0 where
+  pub each : (p q s : ℕ) → p < left.producers → s < left.cells
+      → q < right.producers → s < right.cells → 0 < times lefts p s → times rights q s ≡ 1
 
 -- each left cell is in exactly one subtask, which has every right cell of its column
 pub record IsDriven (left : Grid) (input : ℕ) (right : Grid) (other : ℕ) (subtasks : List Reads) : Type 0 where
@@ -59,8 +60,9 @@ pub record SameColumns (left : Grid) (input : ℕ) (right : Grid) (other : ℕ) 
   pub same : All (λ subtask. (s : ℕ) → s < max left.cells right.cells → touches (rects_of subtask input) s ≡ touches (rects_of subtask other) s) subtasks
 
 -- each cell of each input is in exactly one subtask
-abbrev pub HeadsOnce : List Grid → List Reads → Type 0
-HeadsOnce heads subtasks = (input : ℕ) (grid : Grid) → input < length heads → EachOnce (slice_index_or heads input grid) input subtasks
+pub record HeadsOnce (heads : List Grid) (subtasks : List Reads) : Type 0 where
+  pub each : (input : ℕ) (grid : Grid) → slice_get heads input ≡ Some grid
+      → EachOnce grid input subtasks
 
 -- what the kind demands of the head's inputs
 abbrev pub Demand : ShapeKind → List Grid → List Reads → Type 0

@@ -2,7 +2,7 @@
 
 ghost use Rattle.std.specs.Prelude.{◌≡◌, ◌<◌, ◌≤◌, ◌↔◌, ℕ, IsTrue, All, sum_by, count_by, length, slice_index_or};
 ghost use Rattle.rect_cover.specs.Cells.{Reads, rects_of, times, touches as touches_column};
-ghost use Rattle.rect_cover.specs.Covers.{LiesIn, EachOnce, HeadsOnce, ByColumns, IsDriven};
+ghost use Rattle.rect_cover.specs.Covers.{LiesIn, EachOnce, HeadsOnce, HasColumns, ByColumns, IsDriven};
 
 use crate::one_input::{change_after, has_columns, has_partners, times_in, touches};
 use crate::{Grid, Subtask};
@@ -76,12 +76,10 @@ pub fn each_once(subtasks: &[Subtask], input: usize, grid: &Grid) -> bool
 pub fn heads_once(subtasks: &[Subtask], heads: &[Grid]) -> bool
     ensures { IsTrue result ↔ HeadsOnce heads.now subtasks.now }
 {
-    for (input, grid) in heads.iter().enumerate() {
-        if !each_once(subtasks, input, grid) {
-            return false;
-        }
-    }
-    true
+    heads
+        .iter()
+        .enumerate()
+        .all(|(input, grid)| each_once(subtasks, input, grid))
 }
 
 /// How many subtasks touch the column.
@@ -98,24 +96,22 @@ fn columns_once(subtasks: &[Subtask], input: usize, cells: u32) -> bool
     ensures { IsTrue result ↔ ((s : ℕ) → s < cells
         → count_by (λ subtask. touches_column (rects_of subtask input) s) subtasks.now ≡ 1) }
 {
-    for cell in 0..cells {
-        if touching(subtasks, input, cell) != 1 {
-            return false;
-        }
-    }
-    true
+    (0..cells).all(|cell| touching(subtasks, input, cell) == 1)
+}
+
+fn all_whole(subtasks: &[Subtask], input: usize, grid: &Grid) -> bool
+    ensures { IsTrue result ↔ All (λ subtask. HasColumns grid.now (rects_of subtask input)) subtasks.now }
+{
+    subtasks
+        .iter()
+        .all(|subtask| has_columns(subtask.rects(input), grid))
 }
 
 /// Whether each column is in exactly one subtask, whole.
 pub fn by_columns(subtasks: &[Subtask], input: usize, grid: &Grid) -> bool
     ensures { IsTrue result ↔ ByColumns grid.now input subtasks.now }
 {
-    for subtask in subtasks {
-        if !has_columns(subtask.rects(input), grid) {
-            return false;
-        }
-    }
-    columns_once(subtasks, input, grid.cells)
+    all_whole(subtasks, input, grid) && columns_once(subtasks, input, grid.cells)
 }
 
 /// Whether each left cell is in exactly one subtask, which has every right cell of its column.
@@ -129,10 +125,10 @@ pub fn is_driven(
     requires { All (λ subtask. All (LiesIn left.now) (rects_of subtask input)) subtasks.now }
     ensures { IsTrue result ↔ IsDriven left.now input right.now other subtasks.now }
 {
-    for subtask in subtasks {
-        if !has_partners(left, right, subtask.rects(input), subtask.rects(other)) {
-            return false;
-        }
-    }
-    each_once(subtasks, input, left)
+    subtasks.iter().all(|subtask| has_partners(
+        left,
+        right,
+        subtask.rects(input),
+        subtask.rects(other),
+    )) && each_once(subtasks, input, left)
 }

@@ -102,12 +102,8 @@ fn touch_the_same(subtask: &Subtask, input: usize, other: usize, cells: u32) -> 
     ensures { IsTrue result ↔ ((s : ℕ) → s < cells
         → touches_column (rects_of subtask.now input) s ≡ touches_column (rects_of subtask.now other) s) }
 {
-    for cell in 0..cells {
-        if touches(subtask.rects(input), cell) != touches(subtask.rects(other), cell) {
-            return false;
-        }
-    }
-    true
+    (0..cells).all(|cell| touches(subtask.rects(input), cell)
+        == touches(subtask.rects(other), cell))
 }
 
 /// Whether each column is in exactly one subtask, whole, and on both sides in the same one.
@@ -120,10 +116,10 @@ pub fn same_columns(
 ) -> bool
     ensures { IsTrue result ↔ SameColumns left.now input right.now other subtasks.now }
 {
-    for subtask in subtasks {
-        if !touch_the_same(subtask, input, other, left.cells.max(right.cells)) {
-            return false;
-        }
-    }
-    by_columns(subtasks, input, left) && by_columns(subtasks, other, right)
+    let cells = left.cells.max(right.cells);
+    subtasks
+        .iter()
+        .all(|subtask| touch_the_same(subtask, input, other, cells))
+        && by_columns(subtasks, input, left)
+        && by_columns(subtasks, other, right)
 }

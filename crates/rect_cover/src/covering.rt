@@ -43,12 +43,9 @@ fn all_formed(heads: &[Grid], wide: &[Grid], subtasks: &[Subtask]) -> bool
     ensures { IsTrue result ↔ (All (AllZip IsInput (heads.now ++ wide.now)) subtasks.now
         × All (λ subtask. AllZip HasWhole wide.now (drop (length heads.now) subtask)) subtasks.now) }
 {
-    for subtask in subtasks {
-        if !is_formed(heads, wide, subtask.as_slice()) {
-            return false;
-        }
-    }
-    true
+    subtasks
+        .iter()
+        .all(|subtask| is_formed(heads, wide, subtask.as_slice()))
 }
 
 /// Whether the subtasks meet what the kind demands of the head's inputs.

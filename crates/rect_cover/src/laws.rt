@@ -1,4 +1,4 @@
-ghost use Rattle.std.specs.Prelude.{◌≡◌, ◌⊎◌, ◌<◌, ℕ, Bool, true, List, [], ◌∷◌, length, slice_index_or};
+ghost use Rattle.std.specs.Prelude.{◌≡◌, ◌⊎◌, ◌<◌, ℕ, Bool, true, List, [], ◌∷◌, slice_get, Some};
 ghost use Rattle.std.specs.List.{flat_map, AllZip};
 ghost use Rattle.row_core.specs.Bags.{SameBag};
 ghost use Rattle.bag_laws.specs.Rows.{OneRow, IsKeyed};
@@ -21,9 +21,10 @@ pub fn vertex_law()
 /// Row by row: what the subtasks read of an input is the input.
 pub fn row_wise_law()
     ensures { (grids : List Grid) (subtasks : List Reads) → Demand RowWise grids subtasks
-        → (input : ℕ) (grid : Grid) → input < length grids → (rows : ℕ → ℕ → List OneRow)
-        → let own = slice_index_or grids input grid in
-        SameBag (flat_map (λ subtask. reading own rows (rects_of subtask input)) subtasks) (whole own rows) }
+        → (input : ℕ) (grid : Grid) → slice_get grids input ≡ Some grid
+        → (rows : ℕ → ℕ → List OneRow)
+        → SameBag (flat_map (λ subtask. reading grid rows (rects_of subtask input)) subtasks)
+        (whole grid rows) }
 {}
 
 /// By keys: an operator that goes by the rows that meet, where these stand in one column.

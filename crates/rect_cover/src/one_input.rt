@@ -75,12 +75,7 @@ fn lies_in(rect: Rect, grid: &Grid) -> bool
 fn all_lie_in(rects: &[Rect], grid: &Grid) -> bool
     ensures { IsTrue result ↔ All (LiesIn grid.now) rects.now }
 {
-    for rect in rects {
-        if !lies_in(*rect, grid) {
-            return false;
-        }
-    }
-    true
+    rects.iter().all(|rect| lies_in(*rect, grid))
 }
 
 /// Whether the rects are of the grid, no cell twice.
@@ -101,26 +96,22 @@ fn has_whole(rects: &[Rect], grid: &Grid) -> bool
 pub fn are_inputs(grids: &[Grid], inputs: &[Rects]) -> bool
     ensures { IsTrue result ↔ AllZip IsInput grids.now inputs.now }
 {
-    match (grids.split_first(), inputs.split_first()) {
-        (None, None) => true,
-        (Some((grid, grids)), Some((rects, inputs))) => {
-            is_input(rects.as_slice(), grid) && are_inputs(grids, inputs)
-        }
-        _ => false,
-    }
+    grids.len() == inputs.len()
+        && grids
+            .iter()
+            .zip(inputs)
+            .all(|(grid, rects)| is_input(rects.as_slice(), grid))
 }
 
 /// Whether each list of rects has every cell of the grid in its place, and there are as many grids.
 pub fn are_whole(grids: &[Grid], inputs: &[Rects]) -> bool
     ensures { IsTrue result ↔ AllZip HasWhole grids.now inputs.now }
 {
-    match (grids.split_first(), inputs.split_first()) {
-        (None, None) => true,
-        (Some((grid, grids)), Some((rects, inputs))) => {
-            has_whole(rects.as_slice(), grid) && are_whole(grids, inputs)
-        }
-        _ => false,
-    }
+    grids.len() == inputs.len()
+        && grids
+            .iter()
+            .zip(inputs)
+            .all(|(grid, rects)| has_whole(rects.as_slice(), grid))
 }
 
 /// Whether the rects have each column that they touch with all its producers.
