@@ -9,10 +9,11 @@ use Rattle.row_core.specs.Hashing.{key_of}
 use Rattle.row_core.specs.Values.{value_cmp, row_cmp, same_row, same_value}
 use Rattle.row_core.specs.declared.value.Value.{Value}
 use Rattle.row_core.specs.declared.value.Value.TheVariants.{Null, Int, Text}
-use Rattle.bag_laws.proofs.Orders.{value_total}
+use Rattle.bag_laws.proofs.Laws.{value_total}
 use Rattle.bag_laws.specs.Rows.{OneRow as Row}
 use Rattle.plan_model.specs.Joins.{matches, meets}
-use Rattle.op_join.specs.Keys.{has_null, keys_match, left_columns, right_columns}
+use Rattle.op_join.specs.Keys.{has_null, keys_match}
+use Rattle.operator_laws.specs.Applied.{left_columns, right_columns}
 
 same_cons : (a b : Value) (xs ys : List Value) → same_row (a ∷ xs) (b ∷ ys) ≡ (same_value a b && same_row xs ys)
 same_cons a b xs ys = by (value_cmp a b) (row_cmp xs ys)

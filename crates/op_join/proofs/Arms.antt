@@ -4,7 +4,7 @@ use Rattle.std.proofs.lemmas.Result.{IfOk-weaker}
 use Rattle.std.specs.Result.{IfOk}
 use Rattle.std.specs.declared.result.Result.{Result}
 use Rattle.row_core.specs.Bags.{SameBag}
-use Rattle.bag_laws.proofs.Counts.{SameBag-append}
+use Rattle.bag_laws.proofs.Laws.{SameBag-append}
 use Rattle.bag_laws.specs.Rows.{OneRow as Row}
 use Rattle.plan_model.specs.Joins.{joined}
 use Rattle.plan_model.specs.declared.join_kind.JoinKind.{JoinKind}

@@ -3,15 +3,14 @@ use Rattle.std.proofs.Common.{◌≡◌, ℕ, ◌+◌, ◌-◌, ◌<◌, ◌≤�
 use Rattle.std.proofs.lemmas.List.{take-append-drop, append-nil, map-append, get_or-map, length-map, get_or-take, get_or-drop, length-take, length-drop, drop-map, take-map}
 use Rattle.std.proofs.lemmas.List.Elements.{filter-append, All-head, All-tail}
 use Rattle.std.proofs.lemmas.List.Sorted.{sorted_far}
-use Rattle.std.specs.List.{filter, list_any, AllWithin}
+use Rattle.std.specs.List.{filter, AllWithin}
 use Rattle.std.specs.List.Sorted.{IsSorted, IsSortedBy, IsPartitionedBy}
 use Rattle.std.specs.Prelude.{cond, not, ◌&&◌}
-use Rattle.row_core.specs.Exprs.{is_null}
 use Rattle.row_core.specs.Hashing.{key_of}
 use Rattle.row_core.specs.Values.{row_cmp, same_row}
-use Rattle.bag_laws.proofs.Counts.{same-swapped}
-use Rattle.bag_laws.proofs.Orders.{rows_strict}
-use Rattle.bag_laws.proofs.Sorted.{false_from}
+use Rattle.bag_laws.proofs.Laws.{same-swapped}
+use Rattle.bag_laws.proofs.Laws.{rows_strict}
+use Rattle.bag_laws.proofs.Laws.{false_from}
 use Rattle.bag_laws.specs.Rows.{OneRow as Row, row_less}
 use Rattle.op_join.specs.Keys.{has_null, keys_match}
 

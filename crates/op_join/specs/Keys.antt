@@ -1,20 +1,14 @@
 -- Keys of rows that stand beside their key's first value.
 use Rattle.std.specs.Prelude.{◌≡◌, not, ◌&&◌, ℕ, Bool, List, [], ◌∷◌, All, get_or, map}
 use Rattle.std.specs.List.{list_any}
+use Rattle.std.specs.List.Sorted.{IsSorted}
 use Rattle.row_core.specs.Exprs.{is_null}
 use Rattle.row_core.specs.Hashing.{key_of}
-use Rattle.row_core.specs.Values.{same_row}
+use Rattle.row_core.specs.Values.{row_cmp, same_row}
 use Rattle.row_core.specs.declared.value.Value.{Value}
 use Rattle.row_core.specs.declared.value.Value.TheVariants.{Null}
 use Rattle.op_join.specs.Cells.{prefix_value}
 use Rattle.op_join.specs.declared.keyed.Keyed.{Keyed}
-
--- the columns of the key pairs on the left, and on the right
-abbrev pub left_columns : List (ℕ × ℕ) → List ℕ
-left_columns keys = map (λ pair. pair.0) keys
-
-abbrev pub right_columns : List (ℕ × ℕ) → List ℕ
-right_columns keys = map (λ pair. pair.1) keys
 
 -- a value of the row's key is Null
 abbrev pub has_null : List ℕ → List Value → Bool
@@ -36,3 +30,7 @@ compared_key (column ∷ columns) keyed = prefix_value keyed.prefix ∷ key_of c
 -- beside each row stands its key's first value
 abbrev pub AreKeyed : List ℕ → List Keyed → Type 0
 AreKeyed columns sorted = All (λ keyed. compared_key columns keyed ≡ key_of columns keyed.row.now) sorted
+
+-- the rows stand in the order of their keys
+abbrev pub AreInKeyOrder : List ℕ → List Keyed → Type 0
+AreInKeyOrder columns sorted = IsSorted row_cmp (map (compared_key columns) sorted)

@@ -1,5 +1,5 @@
 -- Probe rows and the side that they meet.
-use Rattle.std.specs.Prelude.{ℕ, List}
+use Rattle.std.specs.Prelude.{List}
 use Rattle.row_core.specs.declared.value.Value.{Value}
 use Rattle.op_join.specs.Keys.{keys_match}
 use Rattle.op_join.specs.Sides.{outputs}

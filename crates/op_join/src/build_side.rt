@@ -3,7 +3,7 @@ ghost use Rattle.row_core.specs.Bags.{SameBag};
 ghost use Rattle.bag_laws.specs.Rows.{OneRow};
 ghost use Rattle.plan_model.specs.Joins.{joined};
 ghost use Rattle.op_join.specs.Builds.{probe};
-ghost use Rattle.op_join.specs.Sides.{goes_by_left};
+ghost use Rattle.plan_model.specs.Operators.{repeats_right};
 
 use crate::probe::Probe;
 use crate::rule::left_rule;
@@ -34,7 +34,13 @@ impl<'a> Model for BuildSide<'a> {
 
     ghost Value = { JoinBuild };
 
-    ghost view = { λ side. record { kind = side.kind; keys = side.keys.now; left_width = side.widths.left; right_width = side.widths.right; right = side.rows.now } };
+    ghost view = { λ side. record {
+      kind = side.kind;
+      keys = side.keys.now;
+      right = side.rows.now;
+      left_width = side.widths.left;
+      right_width = side.widths.right;
+    } };
 
     ghost invariant = { λ side. (left : List OneRow) → SameBag (probe_outputs side.probe left)
         (joined side.keys.now side.widths.left side.widths.right left side.rows.now side.kind) };
@@ -49,7 +55,7 @@ impl<'a> BuildSide<'a> {
         widths: Widths,
         right: &'a Rows,
     ) -> Result<Self, NoMemory>
-        requires { IsTrue (goes_by_left kind) }
+        requires { IsTrue (repeats_right kind) }
         ensures { IfOk result (λ side. (left : List OneRow) → probe side left
             ≡ joined keys.now widths.left widths.right left right.now kind) }
     {

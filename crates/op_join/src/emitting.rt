@@ -38,7 +38,8 @@ fn emit_unmatched(
     padding: &Row,
     row: ProbeRow,
 ) -> Result<(), NoMemory>
-    ensures { OnOk result (out.new ≡ out.old ++ output rule padding.now (probe_values row.entry) []) }
+    ensures { OnOk result
+        (out.new ≡ out.old ++ output rule padding.now (probe_values row.entry) []) }
 {
     match rule {
         Rule::Pairs | Rule::RowIfMatched => Ok(()),

@@ -1,7 +1,8 @@
 ghost use Rattle.std.specs.Prelude.{◌≡◌, IfOk};
 ghost use Rattle.row_core.specs.Hashing.{key_of};
 ghost use Rattle.row_core.specs.Values.{row_cmp};
-ghost use Rattle.op_join.specs.Keys.{compared_key, has_null, left_columns, right_columns};
+ghost use Rattle.operator_laws.specs.Applied.{left_columns, right_columns};
+ghost use Rattle.op_join.specs.Keys.{compared_key, has_null};
 
 use crate::cells::{cell, cmp_cells, lacks};
 use crate::key_prefix::{KeyPrefix, cmp_prefixes, prefix_of};

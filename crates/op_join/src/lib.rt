@@ -8,7 +8,6 @@ mod emitting;
 mod joining;
 mod key_prefix;
 mod keyed;
-mod laws;
 mod probe;
 mod probe_row;
 mod row_parts;
@@ -20,4 +19,3 @@ mod tests;
 
 pub use build_side::BuildSide;
 pub use joining::{join, join_owned};
-pub use laws::{bags_are_kept, left_rows_go_alone};

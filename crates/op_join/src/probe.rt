@@ -22,7 +22,6 @@ pub struct Probe<'a> {
 }
 
 impl<'a> Probe<'a> {
-    ghost use Rattle.op_join.specs.Keys.{left_columns, right_columns};
     ghost use Rattle.op_join.specs.Probes.{probe_outputs};
     ghost use Rattle.op_join.specs.Sides.{outputs};
 

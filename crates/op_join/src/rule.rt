@@ -1,7 +1,8 @@
 ghost use Rattle.std.specs.Prelude.{◌≡◌, ℕ, List, IsTrue};
 ghost use Rattle.bag_laws.specs.Rows.{OneRow};
 ghost use Rattle.plan_model.specs.Joins.{joined, matches, nulls};
-ghost use Rattle.op_join.specs.Sides.{goes_by_left, outputs};
+ghost use Rattle.plan_model.specs.Operators.{repeats_right};
+ghost use Rattle.op_join.specs.Sides.{outputs};
 
 use plan_model::JoinKind;
 
@@ -24,7 +25,7 @@ pub enum Rule {
 
 /// What each left row gives, in a join that goes by its left rows.
 pub fn left_rule(kind: JoinKind) -> Rule
-    requires { IsTrue (goes_by_left kind) }
+    requires { IsTrue (repeats_right kind) }
     ensures { (keys : List (ℕ × ℕ)) (left_width right_width : ℕ) (left right : List OneRow)
         → outputs result (nulls right_width) (matches keys) left right
         ≡ joined keys left_width right_width left right kind }

@@ -1,7 +1,5 @@
-ghost use Rattle.std.specs.Prelude.{◌≡◌, filter, map};
-ghost use Rattle.std.specs.List.Sorted.{IsSorted};
-ghost use Rattle.row_core.specs.Values.{row_cmp};
-ghost use Rattle.op_join.specs.Keys.{compared_key, keys_match, rows_of, AreKeyed};
+ghost use Rattle.std.specs.Prelude.{◌≡◌, filter};
+ghost use Rattle.op_join.specs.Keys.{keys_match, rows_of, AreInKeyOrder, AreKeyed};
 ghost use Rattle.op_join.specs.Searches.{IsFirstReached, IsFirstGreater};
 
 use crate::keyed::{Keyed, cmp_keyed, has_null, with_prefix};
@@ -20,8 +18,9 @@ pub fn matches_among<'a, 'b>(
     last: &mut usize,
 ) -> &'b [Keyed<'a>]
     requires keyed { AreKeyed others.now sorted.now }
-    requires order { IsSorted row_cmp (map (compared_key others.now) sorted.now) }
-    ensures { rows_of result.now ≡ filter (keys_match columns.now others.now row.now) (rows_of sorted.now) }
+    requires order { AreInKeyOrder others.now sorted.now }
+    ensures { rows_of result.now
+        ≡ filter (keys_match columns.now others.now row.now) (rows_of sorted.now) }
 {
     if has_null(columns, row) {
         return &sorted[..0];
@@ -35,8 +34,8 @@ pub fn matches_among<'a, 'b>(
 
 // How many rows at the front have a lesser key than the row. Those about this place are looked at first.
 fn count_less(columns: &[u32], row: &Keyed, others: &[u32], sorted: &[Keyed], place: usize) -> usize
-    requires { IsSorted row_cmp (map (compared_key others.now) sorted.now) }
-    ensures { IsFirstReached (compared_key columns.now row.now) (compared_key others.now) sorted.now result }
+    requires { AreInKeyOrder others.now sorted.now }
+    ensures { IsFirstReached columns.now row.now others.now sorted.now result }
 {
     let from = place.saturating_sub(1).min(sorted.len());
     let to = place.saturating_add(NEAR).min(sorted.len());
@@ -49,16 +48,16 @@ fn count_less(columns: &[u32], row: &Keyed, others: &[u32], sorted: &[Keyed], pl
 }
 
 fn count_less_among(columns: &[u32], row: &Keyed, others: &[u32], sorted: &[Keyed]) -> usize
-    requires { IsSorted row_cmp (map (compared_key others.now) sorted.now) }
-    ensures { IsFirstReached (compared_key columns.now row.now) (compared_key others.now) sorted.now result }
+    requires { AreInKeyOrder others.now sorted.now }
+    ensures { IsFirstReached columns.now row.now others.now sorted.now result }
 {
     sorted.partition_point(|other| cmp_keyed(others, other, columns, row).is_lt())
 }
 
 // How many rows at the front have no greater key. Mostly few do, so the first few are looked at first.
 fn count_reached(columns: &[u32], row: &Keyed, others: &[u32], sorted: &[Keyed]) -> usize
-    requires { IsSorted row_cmp (map (compared_key others.now) sorted.now) }
-    ensures { IsFirstGreater (compared_key columns.now row.now) (compared_key others.now) sorted.now result }
+    requires { AreInKeyOrder others.now sorted.now }
+    ensures { IsFirstGreater columns.now row.now others.now sorted.now result }
 {
     let near = &sorted[..sorted.len().min(NEAR)];
     let count = count_reached_among(columns, row, others, near);
@@ -69,8 +68,8 @@ fn count_reached(columns: &[u32], row: &Keyed, others: &[u32], sorted: &[Keyed])
 }
 
 fn count_reached_among(columns: &[u32], row: &Keyed, others: &[u32], sorted: &[Keyed]) -> usize
-    requires { IsSorted row_cmp (map (compared_key others.now) sorted.now) }
-    ensures { IsFirstGreater (compared_key columns.now row.now) (compared_key others.now) sorted.now result }
+    requires { AreInKeyOrder others.now sorted.now }
+    ensures { IsFirstGreater columns.now row.now others.now sorted.now result }
 {
     sorted.partition_point(|other| !cmp_keyed(columns, row, others, other).is_lt())
 }

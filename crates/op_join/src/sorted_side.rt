@@ -1,8 +1,7 @@
-ghost use Rattle.std.specs.Prelude.{◌≡◌, filter, map, IfOk};
-ghost use Rattle.std.specs.List.Sorted.{IsPermutation, IsSorted};
+ghost use Rattle.std.specs.Prelude.{◌≡◌, filter, IfOk};
+ghost use Rattle.std.specs.List.Sorted.{IsPermutation};
 ghost use Rattle.row_core.specs.Bags.{SameBag};
-ghost use Rattle.row_core.specs.Values.{row_cmp};
-ghost use Rattle.op_join.specs.Keys.{compared_key, keys_match, rows_of, AreKeyed};
+ghost use Rattle.op_join.specs.Keys.{keys_match, rows_of, AreInKeyOrder, AreKeyed};
 
 use crate::keyed::{Keyed, cmp_keyed, with_prefix};
 use crate::searching::matches_among;
@@ -18,10 +17,7 @@ pub struct SortedSide<'a> {
 }
 
 impl<'a> Model for SortedSide<'a> {
-    ghost use Rattle.std.specs.Prelude.{map};
-    ghost use Rattle.std.specs.List.Sorted.{IsSorted};
-    ghost use Rattle.row_core.specs.Values.{row_cmp};
-    ghost use Rattle.op_join.specs.Keys.{compared_key, rows_of, AreKeyed};
+    ghost use Rattle.op_join.specs.Keys.{rows_of, AreInKeyOrder, AreKeyed};
     ghost use Rattle.op_join.specs.Tables.{KeyedTable};
 
     ghost Value = { KeyedTable };
@@ -29,7 +25,7 @@ impl<'a> Model for SortedSide<'a> {
     ghost view = { λ side. record { columns = side.columns.items; rows = rows_of side.sorted.items } };
 
     ghost invariant = { λ side. AreKeyed side.columns.items side.sorted.items
-        × IsSorted row_cmp (map (compared_key side.columns.items) side.sorted.items) };
+        × AreInKeyOrder side.columns.items side.sorted.items };
 }
 
 impl<'a> SortedSide<'a> {
@@ -60,7 +56,7 @@ fn in_key_order<'a>(
 ) -> Result<Vec<Keyed<'a>>, NoMemory>
     ensures rows { IfOk result (λ sorted. IsPermutation rows.now (rows_of sorted.items)) }
     ensures keyed { IfOk result (λ sorted. AreKeyed columns.now sorted.items) }
-    ensures order { IfOk result (λ sorted. IsSorted row_cmp (map (compared_key columns.now) sorted.items)) }
+    ensures order { IfOk result (λ sorted. AreInKeyOrder columns.now sorted.items) }
 {
     let mut sorted = all_keyed(alloc, columns, rows)?;
     sorted.sort_unstable_by(|a, b| cmp_keyed(columns, a, columns, b));

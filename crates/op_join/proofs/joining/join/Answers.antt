@@ -1,5 +1,5 @@
 use Rattle.std.proofs.Common.{◌++◌}
-use Rattle.plan_model.specs.Joins.{joined, matches, nulls}
+use Rattle.plan_model.specs.Joins.{matches, nulls}
 use Rattle.plan_model.specs.declared.join_kind.JoinKind.TheVariants as kind
 use Rattle.op_join.specs.Probes.{probe_outputs}
 use Rattle.op_join.specs.Sides.{outputs}

@@ -1,7 +1,7 @@
 use Rattle.std.proofs.Common.{◌++◌, List, refl, subst}
 use Rattle.row_core.specs.Bags.{SameBag}
 use Rattle.bag_laws.specs.Rows.{OneRow as Row}
-use Rattle.plan_model.specs.Joins.{joined, matches, nulls}
+use Rattle.plan_model.specs.Joins.{matches, nulls}
 use Rattle.plan_model.specs.declared.join_kind.JoinKind.TheVariants as kind
 use Rattle.op_join.specs.Probes.{probe_outputs}
 use Rattle.op_join.specs.Sides.{outputs}

@@ -1,4 +1,4 @@
-use Rattle.std.proofs.Common.{◌≡◌, ◌∙◌, ℕ, ap, arith}
+use Rattle.std.proofs.Common.{◌≡◌, ◌∙◌, ap, arith}
 use Rattle.plan_model.specs.Joins.{nulls}
 use Rattle.op_join.proofs.row_parts.null_row.Goals as goal
 

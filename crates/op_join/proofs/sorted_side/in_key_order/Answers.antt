@@ -4,7 +4,7 @@ use Rattle.std.proofs.lemmas.List.Sorted.{All-permutation, ranks_by, IsPermutati
 use Rattle.std.specs.Cmp.Lexicographic.{lists_total}
 use Rattle.std.specs.List.Sorted.{IsPermutation}
 use Rattle.bag_laws.specs.Rows.{OneRow as Row, row_less}
-use Rattle.bag_laws.proofs.Orders.{value_total}
+use Rattle.bag_laws.proofs.Laws.{value_total}
 use Rattle.op_join.specs.Keys.{compared_key}
 use Rattle.row_core.specs.Hashing.{key_of}
 use Rattle.op_join.specs.declared.keyed.Keyed.{Keyed}

@@ -1,6 +1,6 @@
-use Rattle.std.proofs.Common.{◌≡◌, ◌∙◌}
+use Rattle.std.proofs.Common.{◌∙◌}
 use Rattle.plan_model.specs.Joins.{matches}
-use Rattle.op_join.specs.Keys.{left_columns, right_columns}
+use Rattle.operator_laws.specs.Applied.{left_columns, right_columns}
 use Rattle.op_join.proofs.Alike.{left_matches}
 use Rattle.op_join.proofs.Kept.{probed}
 use Rattle.op_join.proofs.probe.Probe.by_left.Goals as goal

@@ -1,4 +1,4 @@
-use Rattle.std.proofs.Common.{◌≡◌, ◌++◌, List, ℕ, ◌∙◌}
+use Rattle.std.proofs.Common.{◌++◌, List, ℕ, ◌∙◌}
 use Rattle.std.specs.List.{flat_map, filter}
 use Rattle.bag_laws.specs.Rows.{OneRow as Row}
 use Rattle.op_join.specs.Keys.{keys_match}
