@@ -53,13 +53,12 @@ edges_rise nodes node good =
 same_number : (m n : ℕ) → (m == n) ≡ true → m ≡ n
 same_number m n e = grind (arith, nat_tests)
 
--- an edge from the node leads to a later node
-pub next_is_later : (nodes : List Node) (node : ℕ) (edges : List Edge) (edge : Edge) → plan_faults nodes ≡ [] → edges ≡ consumer_edges nodes node → 0 < length edges → IsBelow node (get_or edges 0 edge).into (length nodes)
-next_is_later nodes node edges edge good e lt =
-    let P : List Edge → Type 0 = All (Rises (length nodes)) in
-    let Q : List Edge → Type 0 = All (λ edge. (edge.from == node) ≡ true) in
-    let rise : Rises (length nodes) (get_or edges 0 edge) = subst P (sym e) (edges_rise nodes node good) 0 edge lt in
-    let here : (get_or edges 0 edge).from ≡ node = same_number (get_or edges 0 edge).from node (subst Q (sym e) (filter_passes (λ edge. edge.from == node) (edges_of nodes)) 0 edge lt) in
+-- the edges from a node lead to later nodes
+pub edges_lead_on : (nodes : List Node) (node : ℕ) → plan_faults nodes ≡ [] → All (λ edge. IsBelow node edge.into (length nodes)) (consumer_edges nodes node)
+edges_lead_on nodes node good = λ k d lt.
+    let edge = get_or (consumer_edges nodes node) k d in
+    let rise = edges_rise nodes node good k d lt in
+    let here : edge.from ≡ node = same_number edge.from node (filter_passes (λ (e : Edge). e.from == node) (edges_of nodes) k d lt) in
     record { above = omega (arith, rise.above, here); below = rise.below }
 
 -- ---- the chained edge among a node's edges

@@ -1,5 +1,4 @@
 ghost use Rattle.std.specs.Prelude.{◌≡◌, ◌<◌, length, All, IfOk};
-ghost use Rattle.vertex_builder.specs.Links.{AreLinked};
 ghost use Rattle.vertex_builder.specs.Vertices.{IsChain, OneChain};
 
 use crate::NodeList;
@@ -9,10 +8,9 @@ use std::alloc::Global;
 
 /// A head and the nodes that are chained after it.
 pub fn chain_of(alloc: Global, links: &Links, head: u32) -> Result<NodeList, NoMemory>
-    requires linked { AreLinked links.now.nodes.now links.now.widths.now links.now.consumers.now }
-    requires within { head < length links.now.nodes.now }
-    ensures chain { IfOk result (λ chain. IsChain links.now.nodes.now head chain) }
-    ensures inside { IfOk result (λ chain. All (λ node. node < length links.now.nodes.now) chain) }
+    requires { head < length links.now }
+    ensures chain { IfOk result (IsChain links.now head) }
+    ensures inside { IfOk result (All (λ node. node < length links.now)) }
 {
     let mut chain = vec![in alloc; head]?;
     let mut last = head;
