@@ -2,6 +2,5 @@ mod Examples
 pub mod Chaining
 pub mod Chains
 pub mod EdgeLists
-pub mod GoodNodes
 pub mod Parts
 pub mod Ready

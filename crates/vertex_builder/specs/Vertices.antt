@@ -2,10 +2,8 @@
 use Rattle.std.specs.Prelude.{◌≡◌, ℕ, ◌+◌, ◌-◌, ◌<◌, nat_eq, Bool, true, false, not, ◌&&◌, List, [], ◌∷◌, length, map, filter, get_or, slice_get, All, Some, None, if◌then◌else◌}
 use Rattle.std.specs.List.{list_all, list_any, range_with_len}
 use Rattle.std.specs.Option.{option_map_or}
-use Rattle.plan_model.specs.Checks.{is_sink}
+use Rattle.plan_model.specs.Operators.{is_source, is_sink}
 use Rattle.plan_model.specs.declared.node.Node.{Node}
-use Rattle.plan_model.specs.declared.op.Op.{Op}
-use Rattle.plan_model.specs.declared.op.Op.TheVariants.{Source}
 use Rattle.plan_model.specs.declared.ship.Ship.{Ship}
 use Rattle.plan_model.specs.declared.ship.Ship.TheVariants.{Forward, Hash, Rebalance, Broadcast}
 use Rattle.vertex_builder.specs.Edges.{consumer_edges, input_edges, edge_ship, chained_after, is_head}
@@ -44,10 +42,6 @@ abbrev pub OneChain : Type 0
 OneChain = (nodes : List Node) (head : ℕ) (a b : List ℕ) → IsChain nodes head a → IsChain nodes head b → a ≡ b
 
 -- ---- what comes in and goes out
-
-abbrev pub is_source : Op → Bool
-is_source (Source table columns) = true
-is_source _ = false
 
 abbrev pub is_source_at : List Node → ℕ → Bool
 is_source_at nodes place = option_map_or (λ node. is_source node.op) (slice_get nodes place) false

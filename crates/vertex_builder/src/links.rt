@@ -1,14 +1,15 @@
 ghost use Rattle.std.specs.Prelude.{◌≡◌, ◌<◌, ◌≤◌, ◌^◌, ◌==◌, ◌&&◌, not, [], length, get_or, slice_get, All, Some, IfOk, IfSome};
 ghost use Rattle.std.specs.List.{list_all};
 ghost use Rattle.plan_model.specs.Checks.{plan_faults};
-ghost use Rattle.vertex_builder.specs.Edges.{consumer_edges, is_head, chained_after, edge_ship, is_rowwise};
+ghost use Rattle.plan_model.specs.Operators.{may_rebalance};
+ghost use Rattle.vertex_builder.specs.Edges.{consumer_edges, is_head, chained_after, edge_ship};
 ghost use Rattle.vertex_builder.specs.Links.{IsBelow};
 
 use crate::consumers::consumers;
 use crate::node_widths::node_widths;
 use crate::shipping::ship_into;
 use crate::{Edge, EdgeList};
-use plan_model::{GoodPlan, Node, Op, Ship, width_at};
+use plan_model::{GoodPlan, Node, Ship, width_at};
 use row_core::NoMemory;
 use std::alloc::Global;
 use std::marker::Model;
@@ -119,18 +120,9 @@ impl<'a> Links<'a> {
 
 // Whether a node is chained after another one where it is its only consumer.
 fn is_chainable(node: &Node) -> bool
-    ensures { result ≡ (is_rowwise node.now.op && not node.now.rebalance) }
+    ensures { result ≡ (may_rebalance node.now.op && not node.now.rebalance) }
 {
-    is_rowwise(&node.op) && !node.rebalance
-}
-
-fn is_rowwise(op: &Op) -> bool
-    ensures { result ≡ is_rowwise op.now }
-{
-    matches!(
-        op,
-        Op::Filter { .. } | Op::Project { .. } | Op::Explode { .. } | Op::Sink { .. }
-    )
+    node.op.may_rebalance() && !node.rebalance
 }
 
 // Whether each of these nodes has another number of consumer edges than one.

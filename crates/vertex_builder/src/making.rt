@@ -1,6 +1,7 @@
 ghost use Rattle.std.specs.Prelude.{◌≡◌, ◌<◌, ◌^◌, ◌∷◌, [], length, map, All, IfOk};
+ghost use Rattle.plan_model.specs.Operators.{is_source};
 ghost use Rattle.vertex_builder.specs.Edges.{edges_into};
-ghost use Rattle.vertex_builder.specs.Vertices.{is_source, files_input, text_output, vertex_input, vertex_inputs, vertex_output, vertex_outputs, head_of, IsVertex, OneAnswer};
+ghost use Rattle.vertex_builder.specs.Vertices.{files_input, text_output, vertex_input, vertex_inputs, vertex_output, vertex_outputs, head_of, IsVertex, OneAnswer};
 
 use crate::chain::chain_of;
 use crate::links::Links;
