@@ -8,7 +8,8 @@ use Rattle.std.proofs.lemmas.Option.{slice_get-get_or}
 use Rattle.plan_model.specs.Checks.{plan_faults}
 use Rattle.plan_model.specs.declared.node.Node.{Node}
 use Rattle.vertex_builder.specs.Edges.{is_head}
-use Rattle.vertex_builder.specs.Vertices.{is_among, inputs_at, is_makeable}
+use Rattle.vertex_builder.specs.Chains.{is_among}
+use Rattle.vertex_builder.specs.Vertices.{inputs_at, is_makeable}
 use Rattle.vertex_builder.proofs.Chaining.{no_node}
 use Rattle.vertex_builder.proofs.EdgeLists.{range_more}
 use Rattle.plan_model.proofs.Laws.{inputs_earlier}

@@ -1,22 +1,19 @@
--- The vertices of a plan: which can be made, the chain of each, and what comes in and goes out.
+-- The vertices of a plan: which can be made, and what comes in and goes out.
 use Rattle.std.specs.Prelude.{◌≡◌, ℕ, ◌+◌, ◌-◌, ◌<◌, nat_eq, Bool, true, false, not, ◌&&◌, List, [], ◌∷◌, length, map, filter, get_or, slice_get, All, Some, None, if◌then◌else◌}
-use Rattle.std.specs.List.{list_all, list_any, range_with_len}
+use Rattle.std.specs.List.{list_all, range_with_len}
 use Rattle.std.specs.Option.{option_map_or}
 use Rattle.plan_model.specs.Operators.{is_source, is_sink}
 use Rattle.plan_model.specs.declared.node.Node.{Node}
 use Rattle.plan_model.specs.declared.ship.Ship.{Ship}
 use Rattle.plan_model.specs.declared.ship.Ship.TheVariants.{Forward, Hash, Rebalance, Broadcast}
-use Rattle.vertex_builder.specs.Edges.{consumer_edges, input_edges, edge_ship, chained_after, is_head}
+use Rattle.vertex_builder.specs.Chains.{is_among, IsChain}
+use Rattle.vertex_builder.specs.Edges.{consumer_edges, input_edges, edge_ship, is_head}
 use Rattle.vertex_builder.specs.declared.edge.Edge.{Edge}
 use Rattle.vertex_builder.specs.declared.vertex.Vertex.{Vertex}
 use Rattle.vertex_builder.specs.declared.vertex_input.VertexInput.{VertexInput}
 use Rattle.vertex_builder.specs.declared.vertex_output.VertexOutput.{VertexOutput}
 
 -- ---- which can be made
-
--- the node stands in a set
-abbrev pub is_among : List ℕ → ℕ → Bool
-is_among set node = list_any (nat_eq node) set
 
 -- the nodes whose rows a node takes
 abbrev pub inputs_at : List Node → ℕ → List ℕ
@@ -29,17 +26,6 @@ is_makeable nodes made complete node = is_head nodes node && not (is_among made 
 -- the heads that can be made, in ascending order
 abbrev pub makeable_heads : List Node → List ℕ → List ℕ → List ℕ
 makeable_heads nodes made complete = filter (is_makeable nodes made complete) (range_with_len 0 (length nodes))
-
--- ---- chains
-
--- the chain of a head: behind each node the one that is chained after it, and behind the last none
-pub record IsChain (nodes : List Node) (head : ℕ) (chain : List ℕ) : Type 0 where
-  pub first : slice_get chain 0 ≡ Some head
-  pub next : (k : ℕ) → k < length chain → slice_get chain (k + 1) ≡ chained_after nodes (get_or chain k 0)
-
--- no head has two chains
-abbrev pub OneChain : Type 0
-OneChain = (nodes : List Node) (head : ℕ) (a b : List ℕ) → IsChain nodes head a → IsChain nodes head b → a ≡ b
 
 -- ---- what comes in and goes out
 

@@ -1,5 +1,7 @@
-ghost use Rattle.std.specs.Prelude.{◌≡◌, ◌<◌, length, All, IfOk};
-ghost use Rattle.vertex_builder.specs.Vertices.{IsChain, OneChain};
+ghost use Rattle.std.specs.Prelude.{◌≡◌, ◌<◌, [], List, length, All, IfOk};
+ghost use Rattle.plan_model.specs.Checks.{plan_faults};
+ghost use Rattle.plan_model.specs.declared.node.Node.{Node};
+ghost use Rattle.vertex_builder.specs.Chains.{IsChain, OneChain, ChainsPart};
 
 use crate::NodeList;
 use crate::links::Links;
@@ -20,6 +22,12 @@ pub fn chain_of(alloc: Global, links: &Links, head: u32) -> Result<NodeList, NoM
     }
     Ok(NodeList::from_vec(chain))
 }
+
+/// The chains of the heads part the nodes of a plan without a fault: each node stands in the chain of one
+/// head, and once.
+pub fn chains_part_the_plan()
+    ensures { (nodes : List Node) → plan_faults nodes ≡ [] → ChainsPart nodes }
+{}
 
 /// A head has one chain.
 pub fn one_chain()

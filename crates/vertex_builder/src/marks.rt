@@ -1,5 +1,5 @@
 ghost use Rattle.std.specs.Prelude.{◌≡◌, ◌<◌, ◌||◌, ℕ, nat_eq, false, length, get_or, IfOk};
-ghost use Rattle.vertex_builder.specs.Vertices.{is_among};
+ghost use Rattle.vertex_builder.specs.Chains.{is_among};
 
 use crate::NodeSet;
 use row_core::NoMemory;
