@@ -1,17 +1,21 @@
--- The laws of plans, for proofs of the crates above; those of source/node_laws are contracts as well.
+-- The laws of plans and settings, for proofs of the crates above. Those of plans are contracts as well, in src/node_laws.
 use Rattle.std.proofs.Common.{◌≡◌, ℕ, ◌+◌, ◌<◌, ◌≤◌, All, IsTrue, List, [], ◌∷◌, ◌++◌, length, map, get_or, take, Some, slice_get, slice_index_or, refl}
 use Rattle.std.proofs.lemmas.Option.{slice_get_read}
 use Rattle.plan_model.specs.Checks.{plan_faults, gives_rows, node_kinds}
 use Rattle.plan_model.specs.Nodes.{HasItsWidth, IsGood, IsGoodNode, bag_widths, widths_into}
 use Rattle.plan_model.specs.Operators.{takes_one}
 use Rattle.plan_model.specs.Plans.{Bag, bag_at, bag_of, bags_of}
+use Rattle.plan_model.specs.Settings.{AreInRange, IsInRange, default_values, is_within, with_value}
 use Rattle.plan_model.specs.Widths.{width_of, widths_of, input_widths}
 use Rattle.plan_model.specs.declared.node.Node.{Node}
 use Rattle.plan_model.specs.declared.op.Op.{Op}
+use Rattle.plan_model.specs.declared.setting.Setting.{Setting}
+use Rattle.plan_model.specs.declared.setting_values.SettingValues.{SettingValues}
 use Rattle.plan_model.proofs.GoodNodes as nodes
 use Rattle.plan_model.proofs.NodeWidths as widths
 use Rattle.plan_model.proofs.NodeBags as bags
 use Rattle.plan_model.proofs.RowWidths as rows
+use Rattle.plan_model.proofs.SettingRanges as ranges
 
 -- the node that a loop over the nodes reads at a place
 pub node_read : (all : List Node) (place : ℕ) (node : Node) → place < length all → node ≡ slice_index_or all place node → slice_get all place ≡ Some node
@@ -94,3 +98,14 @@ bag_width = rows.bag_width
 
 pub bag_wide : (files : List ℕ → List (List ℕ)) (op : Op) (inputs : List Bag) → IsGood op inputs → HasItsWidth (bag_of files op inputs)
 bag_wide = rows.bag_wide
+
+-- ---- settings
+
+pub is_within_range : (v : SettingValues) (setting : Setting) (n : ℕ) → IsInRange v setting n → IsTrue (is_within v setting n)
+is_within_range = ranges.is_within_range
+
+pub in_range_with : (v : SettingValues) (setting : Setting) (n : ℕ) → AreInRange v → IsTrue (is_within v setting n) → AreInRange (with_value v setting n)
+in_range_with = ranges.in_range_with
+
+pub defaults_in_range : AreInRange default_values
+defaults_in_range = ranges.defaults_in_range

@@ -1,0 +1,8 @@
+pub mod Laws
+mod Aggregates
+mod Distinct
+mod Joins
+mod NodeBags
+mod Unary
+mod Sections
+mod ValueOrder
