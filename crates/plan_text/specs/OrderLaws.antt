@@ -4,7 +4,8 @@ use Rattle.std.specs.List.{list_all, IsDistinct}
 use Rattle.plan_model.specs.Checks.{plan_faults}
 use Rattle.plan_model.specs.declared.node.Node.{Node}
 use Rattle.vertex_builder.specs.Edges.{is_head}
-use Rattle.vertex_builder.specs.Vertices.{is_among, inputs_at}
+use Rattle.vertex_builder.specs.Chains.{is_among}
+use Rattle.vertex_builder.specs.Vertices.{inputs_at}
 use Rattle.plan_text.specs.Making.{nodes_of_vertices, making_order}
 
 -- each head of the plan, and no other node, and none twice
@@ -27,7 +28,8 @@ EachNodeIsShown = (nodes : List Node) → plan_faults nodes ≡ [] → ShowsEach
 
 -- the nodes whose rows a head takes are in vertices before its own
 abbrev pub GoesByInputs : List Node → List ℕ → Type 0
-GoesByInputs nodes heads = (k : ℕ) → k < length heads → list_all (is_among (nodes_of_vertices nodes (take k heads))) (inputs_at nodes (get_or heads k 0)) ≡ true
+GoesByInputs nodes heads = (k : ℕ) → k < length heads
+    → list_all (is_among (nodes_of_vertices nodes (take k heads))) (inputs_at nodes (get_or heads k 0)) ≡ true
 
 -- the order goes by the inputs of each head
 abbrev pub InputsComeBefore : Type 0

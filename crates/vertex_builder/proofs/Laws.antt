@@ -1,9 +1,10 @@
 -- The laws of chains and vertices, for proofs of the crates above.
-use Rattle.std.proofs.Common.{◌≡◌, ℕ, List, [], length}
+use Rattle.std.proofs.Common.{◌≡◌, ℕ, ◌-◌, List, [], length, get_or, ap, ◌∙◌}
 use Rattle.plan_model.specs.Checks.{plan_faults}
 use Rattle.plan_model.specs.declared.node.Node.{Node}
-use Rattle.vertex_builder.specs.Chains.{ChainsPart, OneChain}
-use Rattle.vertex_builder.specs.Vertices.{OneAnswer}
+use Rattle.vertex_builder.specs.Chains.{ChainsPart, OneChain, chain_of}
+use Rattle.vertex_builder.specs.Vertices.{OneAnswer, IsVertex, head_of, vertex_of, vertex_outputs}
+use Rattle.vertex_builder.specs.declared.vertex.Vertex.{Vertex}
 use Rattle.vertex_builder.proofs.Apart as apart
 use Rattle.vertex_builder.proofs.Chains as chains
 use Rattle.vertex_builder.proofs.Covered as covered
@@ -14,6 +15,14 @@ one_chain = chains.one_chain
 
 pub one_answer : OneAnswer
 one_answer = chains.one_answer
+
+-- a vertex is the one that its head has
+pub vertex_is : (nodes : List Node) (max_parallelism : ℕ) (vertex : Vertex) → plan_faults nodes ≡ [] → IsVertex nodes max_parallelism vertex → vertex ≡ vertex_of nodes max_parallelism (head_of vertex)
+vertex_is nodes max_parallelism vertex good is =
+    let head = head_of vertex in
+    let chain = chains.one_chain nodes head vertex.nodes (chain_of nodes head) is.chain (following.is_chain nodes head good) in
+    let outputs = is.outputs ∙ ap (λ (l : List ℕ). vertex_outputs nodes max_parallelism (get_or l (length l - 1) 0)) chain in
+    (λ i. record { nodes = chain i; inputs = is.inputs i; outputs = outputs i })
 
 pub chains_part : (nodes : List Node) → plan_faults nodes ≡ [] → ChainsPart nodes
 chains_part nodes good = record {

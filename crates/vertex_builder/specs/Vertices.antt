@@ -6,7 +6,7 @@ use Rattle.plan_model.specs.Operators.{is_source, is_sink}
 use Rattle.plan_model.specs.declared.node.Node.{Node}
 use Rattle.plan_model.specs.declared.ship.Ship.{Ship}
 use Rattle.plan_model.specs.declared.ship.Ship.TheVariants.{Forward, Hash, Rebalance, Broadcast}
-use Rattle.vertex_builder.specs.Chains.{is_among, IsChain}
+use Rattle.vertex_builder.specs.Chains.{is_among, IsChain, chain_of}
 use Rattle.vertex_builder.specs.Edges.{consumer_edges, input_edges, edge_ship, is_head}
 use Rattle.vertex_builder.specs.declared.edge.Edge.{Edge}
 use Rattle.vertex_builder.specs.declared.vertex.Vertex.{Vertex}
@@ -78,6 +78,11 @@ pub record IsVertex (nodes : List Node) (max_parallelism : ℕ) (vertex : Vertex
   pub chain : IsChain nodes (head_of vertex) vertex.nodes
   pub inputs : vertex.inputs ≡ vertex_inputs nodes (head_of vertex)
   pub outputs : vertex.outputs ≡ vertex_outputs nodes max_parallelism (last_of vertex)
+
+-- the vertex of a head, computed
+abbrev pub vertex_of : List Node → ℕ → ℕ → Vertex
+vertex_of nodes max_parallelism head = let chain = chain_of nodes head in
+    record { nodes = chain; inputs = vertex_inputs nodes head; outputs = vertex_outputs nodes max_parallelism (get_or chain (length chain - 1) 0) }
 
 -- the vertices of given heads are determined
 abbrev pub OneAnswer : Type 0

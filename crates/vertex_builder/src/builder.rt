@@ -1,4 +1,4 @@
-ghost use Rattle.std.specs.Prelude.{◌≡◌, ◌<◌, ◌^◌, ◌&&◌, not, false, [], length, map, get_or, All, IfOk};
+ghost use Rattle.std.specs.Prelude.{◌≡◌, ◌<◌, ◌&&◌, not, false, [], length, map, get_or, All, IfOk};
 ghost use Rattle.std.specs.List.{list_all};
 ghost use Rattle.vertex_builder.specs.Edges.{is_head};
 ghost use Rattle.vertex_builder.specs.Vertices.{inputs_at, makeable_heads, head_of, IsVertex};
@@ -21,8 +21,7 @@ pub fn makeable(
     widened: &Widenings,
     settings: &Settings,
 ) -> Result<Vertices, NoMemory>
-    requires few { length plan.now < 2 ^ 32 }
-    requires none_widened { widened.now ≡ [] }
+    requires { widened.now ≡ [] }
     ensures heads { IfOk result
         (λ vertices. map head_of vertices ≡ makeable_heads plan.now made.now complete.now) }
     ensures vertices { IfOk result (All (IsVertex plan.now settings.now.max_parallelism)) }

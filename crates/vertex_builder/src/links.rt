@@ -1,4 +1,4 @@
-ghost use Rattle.std.specs.Prelude.{◌≡◌, ◌<◌, ◌≤◌, ◌^◌, ◌==◌, ◌&&◌, not, [], length, get_or, slice_get, All, Some, IfOk, IfSome};
+ghost use Rattle.std.specs.Prelude.{◌≡◌, ◌<◌, ◌≤◌, ◌==◌, ◌&&◌, not, [], length, get_or, slice_get, All, Some, IfOk, IfSome};
 ghost use Rattle.std.specs.List.{list_all};
 ghost use Rattle.plan_model.specs.Checks.{plan_faults};
 ghost use Rattle.plan_model.specs.Operators.{may_rebalance};
@@ -42,7 +42,6 @@ impl<'a> Model for Links<'a> {
 impl<'a> Links<'a> {
     /// Links the nodes of a plan, in time linear in its edges.
     pub fn of(alloc: Global, plan: &'a GoodPlan) -> Result<Links<'a>, NoMemory>
-        requires { length plan.now < 2 ^ 32 }
         ensures { IfOk result (λ links. links ≡ plan.now) }
     {
         let nodes = plan.nodes();
