@@ -11,4 +11,6 @@ sink_count nodes = count_by (λ node. is_sink node.op) nodes
 
 -- `ok nodes=6 sinks=1`, and a line feed
 abbrev pub check_text : List Node → List ℕ
-check_text nodes = codes "ok nodes=" ++ decimal (length nodes) ++ codes " sinks=" ++ decimal (sink_count nodes) ++ line_feed ∷ []
+check_text nodes =
+    codes "ok nodes=" ++ decimal (length nodes)
+    ++ codes " sinks=" ++ decimal (sink_count nodes) ++ line_feed ∷ []

@@ -59,4 +59,5 @@ vertex_line number vertex =
 -- a line for each vertex, the first of which has this number
 abbrev pub vertex_lines : ℕ → List Vertex → List ℕ
 vertex_lines number [] = []
-vertex_lines number (vertex ∷ vertices) = vertex_line number vertex ++ vertex_lines (number + 1) vertices
+vertex_lines number (vertex ∷ vertices) =
+    vertex_line number vertex ++ vertex_lines (number + 1) vertices

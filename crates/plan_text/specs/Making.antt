@@ -11,8 +11,8 @@ use Rattle.vertex_builder.specs.declared.vertex.Vertex.{Vertex}
 abbrev pub nodes_of_vertices : List Node → List ℕ → List ℕ
 nodes_of_vertices nodes heads = flat_map (chain_of nodes) heads
 
--- The heads that are made once this many vertices are complete: at first those that can be made at once, and with each
--- vertex that completes, in the order made, those that can be made then.
+-- the heads made once this many vertices are complete, which complete in the order made: at first
+-- those that can be made at once, and with each completed vertex those that can be made then
 abbrev pub heads_made : List Node → ℕ → List ℕ
 heads_made nodes zero = makeable_heads nodes [] []
 heads_made nodes (suc complete) = let made = heads_made nodes complete in
@@ -22,6 +22,6 @@ heads_made nodes (suc complete) = let made = heads_made nodes complete in
 abbrev pub making_order : List Node → List ℕ
 making_order nodes = heads_made nodes (length nodes)
 
--- the vertices in the order made; of the settings, only how many cells outputs have goes by them
+-- the vertices in the order made; only the cells of their outputs go by a setting
 abbrev pub vertices_made : List Node → List Vertex
 vertices_made nodes = map (vertex_of nodes default_values.max_parallelism) (making_order nodes)

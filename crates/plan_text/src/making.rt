@@ -7,8 +7,8 @@ use row_core::NoMemory;
 use std::alloc::Global;
 use vertex_builder::{NodeSet, Vertex, Widenings, makeable};
 
-/// The vertices of a plan in the order in which they are made, if they complete one at a time in that order.
-/// It calls `makeable` once more than there are vertices, at most.
+/// The vertices of a plan in the order in which they are made, if they complete one at a time in
+/// that order. It calls `makeable` once more than there are vertices, at most.
 pub fn vertices_in_order(alloc: Global, plan: &GoodPlan) -> Result<Vec<Vertex>, NoMemory>
     ensures { IfOk result (λ vertices. vertices.items ≡ vertices_made plan.now) }
 {

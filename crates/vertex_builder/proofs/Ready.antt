@@ -10,13 +10,16 @@ use Rattle.plan_model.specs.declared.node.Node.{Node}
 use Rattle.vertex_builder.specs.Edges.{is_head}
 use Rattle.vertex_builder.specs.Chains.{is_among}
 use Rattle.vertex_builder.specs.Vertices.{inputs_at, is_makeable}
+use Rattle.vertex_builder.specs.Links.{Marks}
 use Rattle.vertex_builder.proofs.Chaining.{no_node}
 use Rattle.vertex_builder.proofs.EdgeLists.{range_more}
 use Rattle.plan_model.proofs.Laws.{inputs_earlier}
 
--- each node of a plan is marked where it stands in the set
-pub record Marks (set : List ℕ) (count : ℕ) (marks : List Bool) : Type 0 where
-  pub at : (k : ℕ) → k < count → get_or marks k false ≡ is_among set k
+-- the marks of all nodes, as they are kept
+pub marks_of_all : (set : List ℕ) (all count : ℕ) (kept marks : List Bool) → count ≡ all → marks ≡ kept → Marks set count kept → Marks set all marks
+marks_of_all set all count kept marks e same h =
+    let P : List Bool → Type 0 = λ m. Marks set all m in
+    subst P (sym same) (subst (λ (n : ℕ). Marks set n kept) e h)
 
 all_agree : (p q : ℕ → Bool) (n : ℕ) (xs : List ℕ) → AllByRecursion (λ x. x < n) xs → ((x : ℕ) → x < n → p x ≡ q x) → list_all p xs ≡ list_all q xs
 all_agree p q n [] below e = refl

@@ -12,18 +12,21 @@ is_among set node = list_any (nat_eq node) set
 -- the chain of a head: behind each node the one that is chained after it, and behind the last none
 pub record IsChain (nodes : List Node) (head : ℕ) (chain : List ℕ) : Type 0 where
   pub first : slice_get chain 0 ≡ Some head
-  pub next : (k : ℕ) → k < length chain → slice_get chain (k + 1) ≡ chained_after nodes (get_or chain k 0)
+  pub next : (k : ℕ) → k < length chain
+      → slice_get chain (k + 1) ≡ chained_after nodes (get_or chain k 0)
 
 -- no head has two chains
 abbrev pub OneChain : Type 0
-OneChain = (nodes : List Node) (head : ℕ) (a b : List ℕ) → IsChain nodes head a → IsChain nodes head b → a ≡ b
+OneChain = (nodes : List Node) (head : ℕ) (a b : List ℕ)
+    → IsChain nodes head a → IsChain nodes head b → a ≡ b
 
 -- ---- the chain, computed
 
 -- a node, and at most this many that are chained one after the other behind it
 abbrev pub chain_from : ℕ → List Node → ℕ → List ℕ
 chain_from zero nodes node = node ∷ []
-chain_from (suc more) nodes node = node ∷ option_map_or (chain_from more nodes) (chained_after nodes node) []
+chain_from (suc more) nodes node =
+    node ∷ option_map_or (chain_from more nodes) (chained_after nodes node) []
 
 -- the chain of a head: no chain has more nodes than the plan
 abbrev pub chain_of : List Node → ℕ → List ℕ
@@ -38,11 +41,13 @@ pub record HasHead (nodes : List Node) (node : ℕ) : Type 0 where
   pub is : IsTrue (is_head nodes head)
   pub inside : IsTrue (is_among (chain_of nodes head) node)
 
--- each node of the plan stands in the chain of one head, once, and nothing else stands in the chains of its heads
+-- each node of the plan stands in the chain of one head, once; nothing else stands in these chains
 pub record ChainsPart (nodes : List Node) : Type 0 where
   pub chains : (head : ℕ) → IsChain nodes head (chain_of nodes head)
   pub each : (node : ℕ) → node < length nodes → HasHead nodes node
   pub one : (node a b : ℕ) → IsTrue (is_head nodes a) → IsTrue (is_head nodes b)
-      → IsTrue (is_among (chain_of nodes a) node) → IsTrue (is_among (chain_of nodes b) node) → a ≡ b
+      → IsTrue (is_among (chain_of nodes a) node) → IsTrue (is_among (chain_of nodes b) node)
+      → a ≡ b
   pub once : (head : ℕ) → IsDistinct nat_eq (chain_of nodes head)
-  pub inside : (head node : ℕ) → head < length nodes → IsTrue (is_among (chain_of nodes head) node) → node < length nodes
+  pub inside : (head node : ℕ) → head < length nodes
+      → IsTrue (is_among (chain_of nodes head) node) → node < length nodes

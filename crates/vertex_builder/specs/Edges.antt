@@ -16,7 +16,8 @@ use Rattle.vertex_builder.specs.declared.edge.Edge.{Edge}
 -- an edge from each of these inputs, the first of which is the node's input at this place
 abbrev pub edges_into : ℕ → ℕ → List ℕ → List Edge
 edges_into node place [] = []
-edges_into node place (input ∷ inputs) = record { from = input; into = node; place = place } ∷ edges_into node (place + 1) inputs
+edges_into node place (input ∷ inputs) =
+    record { from = input; into = node; place = place } ∷ edges_into node (place + 1) inputs
 
 -- the edges into these nodes, the first of which stands at this place
 abbrev pub edges_from : ℕ → List Node → List Edge
@@ -33,7 +34,8 @@ consumer_edges nodes node = filter (λ edge. edge.from == node) (edges_of nodes)
 
 -- the edges into a node
 abbrev pub input_edges : List Node → ℕ → List Edge
-input_edges nodes place = option_map_or (λ node. edges_into place 0 node.inputs) (slice_get nodes place) []
+input_edges nodes place =
+    option_map_or (λ node. edges_into place 0 node.inputs) (slice_get nodes place) []
 
 -- ---- ships
 
@@ -55,7 +57,9 @@ ship_into node place width = if node.rebalance then Rebalance else op_ship node.
 
 -- how rows go along an edge
 abbrev pub edge_ship : List Node → Edge → Ship
-edge_ship nodes edge = option_map_or (λ node. ship_into node edge.place (get_or (widths_of nodes) edge.from 0)) (slice_get nodes edge.into) Forward
+edge_ship nodes edge =
+    let width = get_or (widths_of nodes) edge.from 0 in
+    option_map_or (λ node. ship_into node edge.place width) (slice_get nodes edge.into) Forward
 
 abbrev pub is_forward : Ship → Bool
 is_forward Forward = true
@@ -63,9 +67,11 @@ is_forward _ = false
 
 -- ---- chained edges
 
--- the edge goes forward into an operator that works on one row at a time
+-- the edge goes forward into an operator that works on one row of one input at a time
 abbrev pub may_chain : List Node → Edge → Bool
-may_chain nodes edge = option_map_or (λ node. may_rebalance node.op) (slice_get nodes edge.into) false && is_forward (edge_ship nodes edge)
+may_chain nodes edge =
+    option_map_or (λ node. may_rebalance node.op) (slice_get nodes edge.into) false
+    && is_forward (edge_ship nodes edge)
 
 -- an edge that may chain, and is the only one from its node
 abbrev pub is_chained : List Node → Edge → Bool
@@ -73,7 +79,8 @@ is_chained nodes edge = (length (consumer_edges nodes edge.from) == 1) && may_ch
 
 -- the node that is chained after a node
 abbrev pub chained_after : List Node → ℕ → Option ℕ
-chained_after nodes node = option_map (λ edge. edge.into) (find (is_chained nodes) (consumer_edges nodes node))
+chained_after nodes node =
+    option_map (λ edge. edge.into) (find (is_chained nodes) (consumer_edges nodes node))
 
 -- none of the edges into the node is chained
 abbrev pub is_head : List Node → ℕ → Bool

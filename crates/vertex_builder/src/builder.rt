@@ -11,8 +11,9 @@ use plan_model::{GoodPlan, Settings};
 use row_core::NoMemory;
 use std::alloc::Global;
 
-/// The vertices that can be made, in ascending order of their heads: of those heads that are not made and
-/// whose inputs are complete. `made` and `complete` are nodes, in any order. docs/SEMANTICS.md has the rule.
+/// The vertices that can be made, in ascending order of their heads: of those heads that are not
+/// made and whose inputs are complete. `made` and `complete` are nodes, in any order.
+/// docs/SEMANTICS.md has the rule.
 pub fn makeable(
     alloc: Global,
     plan: &GoodPlan,

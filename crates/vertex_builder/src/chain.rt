@@ -23,8 +23,8 @@ pub fn chain_of(alloc: Global, links: &Links, head: u32) -> Result<NodeList, NoM
     Ok(NodeList::from_vec(chain))
 }
 
-/// The chains of the heads part the nodes of a plan without a fault: each node stands in the chain of one
-/// head, and once.
+/// The chains of the heads part the nodes of a plan without a fault: each node stands in the chain
+/// of one head, and once.
 pub fn chains_part_the_plan()
     ensures { (nodes : List Node) → plan_faults nodes ≡ [] → ChainsPart nodes }
 {}

@@ -1,5 +1,5 @@
-//! The vertices of a plan: chains of nodes that run in one task, with what comes in and goes out. A vertex
-//! can be made once the vertices of its inputs are complete.
+//! The vertices of a plan: chains of nodes that run in one task, with what comes in and goes out.
+//! A vertex can be made once the vertices of its inputs are complete.
 #![tactic(auto)]
 
 mod builder;

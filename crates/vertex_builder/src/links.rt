@@ -14,7 +14,8 @@ use row_core::NoMemory;
 use std::alloc::Global;
 use std::marker::Model;
 
-/// The nodes of a plan, with the width and the consumer edges of each at hand. Contracts see the nodes.
+/// The nodes of a plan, with the width and the consumer edges of each at hand. Contracts see the
+/// nodes.
 #[derive(Drop)]
 pub struct Links<'a> {
     nodes: &'a [Node],
@@ -34,7 +35,8 @@ impl<'a> Model for Links<'a> {
 
     ghost view = { λ links. links.nodes.now };
 
-    ghost invariant = { λ links. AreLinked links.nodes.now links.widths.items links.consumers.items };
+    ghost invariant = { λ links.
+        AreLinked links.nodes.now links.widths.items links.consumers.items };
 
     ghost coded = { Prim.hlevel (codes, expr.the_row.coded, pred.the_row.coded) };
 }
@@ -126,7 +128,8 @@ fn is_chainable(node: &Node) -> bool
 
 // Whether each of these nodes has another number of consumer edges than one.
 fn no_sole_consumer(consumers: &[EdgeList], nodes: &[u32]) -> bool
-    ensures { result ≡ list_all (λ node. not (length (get_or consumers.now node []) == 1)) nodes.now }
+    ensures { result
+        ≡ list_all (λ node. not (length (get_or consumers.now node []) == 1)) nodes.now }
 {
     nodes
         .iter()
