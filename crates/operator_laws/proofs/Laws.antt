@@ -12,3 +12,5 @@ pub use Rattle.operator_laws.proofs.Joins.{left_none, left_sum, left_each, right
 -- ---- nodes and the text of the sinks: by bags
 pub use Rattle.operator_laws.proofs.NodeBags.{bags_same}
 pub use Rattle.operator_laws.proofs.Sections.{lines_same, section_same, texts_same}
+-- ---- values within their limits
+pub use Rattle.operator_laws.proofs.Limits.{applied_fits, joined_fits, node_fits, rows_within}

@@ -1,38 +1,26 @@
--- Rows and constants whose texts are within the limit, so that they can be encoded.
-use Rattle.std.specs.Prelude.{nat_le, Bool, true, ◌&&◌, ⊤, List, length, All, IsTrue}
+-- Rows and constants whose values are within their limits, so that they can be encoded.
+use Rattle.std.specs.Prelude.{◌≡◌, ⊤, List, All}
 use Rattle.std.specs.List.{AllByRecursion}
-use Rattle.row_core.specs.Encoding.{TextFits}
-use Rattle.row_core.specs.declared.expr.Expr.{Expr}
-use Rattle.row_core.specs.declared.expr.Expr.TheOpen.{Expr-F}
-use Rattle.row_core.specs.declared.expr.Expr.TheFolds.{fold-Expr}
+use Rattle.row_core.specs.Encoding.{TextFits, ValueFits}
+use Rattle.row_core.specs.declared.expr.Expr.{Expr, Const}
 use Rattle.row_core.specs.declared.value.Value.{Value}
-use Rattle.row_core.specs.declared.value.Value.TheVariants.{Text}
 use Rattle.bag_laws.specs.Rows.{OneRow as Row}
 use Rattle.plan_model.specs.declared.op.Op.{Op}
 use Rattle.plan_model.specs.declared.op.Op.TheVariants.{Project}
+
+-- each value of each row is a number of 64 bits or a text within the limit
+abbrev pub ValuesFit : List Row → Type 0
+ValuesFit rows = All (λ row. AllByRecursion ValueFits row) rows
 
 -- the texts of each row are within the limit
 abbrev pub TextsFit : List Row → Type 0
 TextsFit rows = All (λ row. AllByRecursion TextFits row) rows
 
-abbrev pub constant_fits : Value → Bool
-constant_fits (Text t) = nat_le (length t) 16777216
-constant_fits _ = true
+-- an expression that is a constant is within the limits
+abbrev pub ConstantFits : Expr → Type 0
+ConstantFits expr = (value : Value) → expr ≡ Const value → ValueFits value
 
--- one level of an expression, with what is so of each part in its place
-abbrev pub constants_step : Expr-F Bool → Bool
-constants_step (Expr-F.Col k) = true
-constants_step (Expr-F.Const value) = constant_fits value
-constants_step (Expr-F.Add a b) = a && b
-constants_step (Expr-F.Sub a b) = a && b
-constants_step (Expr-F.Mul a b) = a && b
-constants_step (Expr-F.Concat a b) = a && b
-
--- the texts among an expression's constants are within the limit
-abbrev pub constants_fit : Expr → Bool
-constants_fit = fold-Expr Bool constants_step
-
--- those of what an operator projects
+-- the constants that an operator projects are within the limits
 abbrev pub ConstantsFit : Op → Type 0
-ConstantsFit (Project exprs) = All (λ expr. IsTrue (constants_fit expr)) exprs
+ConstantsFit (Project exprs) = All ConstantFits exprs
 ConstantsFit _ = ⊤
