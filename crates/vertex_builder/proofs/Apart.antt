@@ -15,7 +15,7 @@ use Rattle.vertex_builder.specs.declared.edge.Edge.{Edge}
 use Rattle.vertex_builder.specs.Edges.{edges_into, edges_from, edges_of, consumer_edges, input_edges, edge_ship, is_forward, may_chain, is_chained, chained_after, is_head}
 use Rattle.vertex_builder.specs.Chains.{is_among}
 use Rattle.vertex_builder.proofs.Chaining.{no_node}
-use Rattle.vertex_builder.specs.Chains.{is_among, chain_from, chain_of}
+use Rattle.vertex_builder.specs.Chains.{is_among, chain_from, chain_of, TakesAfter}
 use Rattle.vertex_builder.proofs.Following.{chained_is_later, same_item}
 use Rattle.vertex_builder.proofs.Covered.{goes_into, starts}
 use Rattle.vertex_builder.proofs.Membership.{same_yes, same_number, other_number, either_left, either_right, both_left, both_right, all_map, none_twice, IsIn, in_one}
@@ -130,13 +130,24 @@ chained_to nodes before node next =
     }
 
 module _ (nodes : List Node) (good : plan_faults nodes ≡ []) where
+  pub takes_after : (before node : ℕ) → chained_after nodes before ≡ Some node → TakesAfter nodes before node
+  takes_after before node to =
+      let by = chained_to nodes before node to in
+      let it = get_or nodes node no_node in
+      let at = slice_get-get_or nodes node no_node by.within in
+      record {
+        it = it;
+        at = at;
+        input = in_one before it.inputs (one_input nodes node it good at (takes_one_row it.op by.rowwise)) by.input;
+        row = by.rowwise;
+      }
+
   one_before : (a b node : ℕ) → chained_after nodes a ≡ Some node → chained_after nodes b ≡ Some node → a ≡ b
   one_before a b node to_a to_b =
-      let by_a = chained_to nodes a node to_a in
-      let by_b = chained_to nodes b node to_b in
-      let inputs : List ℕ = (get_or nodes node no_node).inputs in
-      let one : length inputs ≡ 1 = one_input nodes node (get_or nodes node no_node) good (slice_get-get_or nodes node no_node by_a.within) (takes_one_row (get_or nodes node no_node).op by_a.rowwise) in
-      ap (λ (l : List ℕ). get_or l 0 0) (sym (in_one a inputs one by_a.input) ∙ in_one b inputs one by_b.input)
+      let by_a = takes_after a node to_a in
+      let by_b = takes_after b node to_b in
+      let same = ap (λ (o : Option Node). option_map_or (λ n. n.inputs) o []) (sym by_a.at ∙ by_b.at) in
+      ap (λ (l : List ℕ). get_or l 0 0) (sym by_a.input ∙ same ∙ by_b.input)
 
   -- ---- one head
 

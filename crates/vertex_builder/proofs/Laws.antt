@@ -1,8 +1,9 @@
 -- The laws of chains and vertices, for proofs of the crates above.
-use Rattle.std.proofs.Common.{◌≡◌, ℕ, ◌-◌, List, [], length, get_or, ap, ◌∙◌}
+use Rattle.std.proofs.Common.{◌≡◌, ℕ, ◌-◌, List, [], length, get_or, Some, ap, ◌∙◌}
 use Rattle.plan_model.specs.Checks.{plan_faults}
 use Rattle.plan_model.specs.declared.node.Node.{Node}
-use Rattle.vertex_builder.specs.Chains.{ChainsPart, OneChain, chain_of}
+use Rattle.vertex_builder.specs.Chains.{ChainsPart, OneChain, TakesAfter, chain_of}
+use Rattle.vertex_builder.specs.Edges.{chained_after}
 use Rattle.vertex_builder.specs.Vertices.{OneAnswer, IsVertex, head_of, vertex_of, vertex_outputs}
 use Rattle.vertex_builder.specs.declared.vertex.Vertex.{Vertex}
 use Rattle.vertex_builder.proofs.Apart as apart
@@ -23,6 +24,9 @@ vertex_is nodes max_parallelism vertex good is =
     let chain = chains.one_chain nodes head vertex.nodes (chain_of nodes head) is.chain (following.is_chain nodes head good) in
     let outputs = is.outputs ∙ ap (λ (l : List ℕ). vertex_outputs nodes max_parallelism (get_or l (length l - 1) 0)) chain in
     (λ i. record { nodes = chain i; inputs = is.inputs i; outputs = outputs i })
+
+pub takes_after : (nodes : List Node) → plan_faults nodes ≡ [] → (before node : ℕ) → chained_after nodes before ≡ Some node → TakesAfter nodes before node
+takes_after = apart.takes_after
 
 pub chains_part : (nodes : List Node) → plan_faults nodes ≡ [] → ChainsPart nodes
 chains_part nodes good = record {

@@ -2,6 +2,7 @@
 use Rattle.std.specs.Prelude.{◌≡◌, ℕ, zero, suc, ◌+◌, ◌<◌, ◌≤◌, nat_eq, Bool, IsTrue, List, [], ◌∷◌, length, get_or, slice_get, Some}
 use Rattle.std.specs.List.{list_any, IsDistinct}
 use Rattle.std.specs.Option.{option_map_or}
+use Rattle.plan_model.specs.Operators.{may_rebalance}
 use Rattle.plan_model.specs.declared.node.Node.{Node}
 use Rattle.vertex_builder.specs.Edges.{chained_after, is_head}
 
@@ -19,6 +20,13 @@ pub record IsChain (nodes : List Node) (head : ℕ) (chain : List ℕ) : Type 0 
 abbrev pub OneChain : Type 0
 OneChain = (nodes : List Node) (head : ℕ) (a b : List ℕ)
     → IsChain nodes head a → IsChain nodes head b → a ≡ b
+
+-- a node that is chained after another: it works on one row at a time, and takes that one's rows alone
+pub record TakesAfter (nodes : List Node) (before node : ℕ) : Type 0 where
+  pub it : Node
+  pub at : slice_get nodes node ≡ Some it
+  pub input : it.inputs ≡ before ∷ []
+  pub row : IsTrue (may_rebalance it.op)
 
 -- ---- the chain, computed
 

@@ -1,7 +1,8 @@
-ghost use Rattle.std.specs.Prelude.{◌≡◌, ◌<◌, [], List, length, All, IfOk};
+ghost use Rattle.std.specs.Prelude.{◌≡◌, ◌<◌, ℕ, [], List, length, All, Some, IfOk};
 ghost use Rattle.plan_model.specs.Checks.{plan_faults};
 ghost use Rattle.plan_model.specs.declared.node.Node.{Node};
-ghost use Rattle.vertex_builder.specs.Chains.{IsChain, OneChain, ChainsPart};
+ghost use Rattle.vertex_builder.specs.Edges.{chained_after};
+ghost use Rattle.vertex_builder.specs.Chains.{IsChain, OneChain, ChainsPart, TakesAfter};
 
 use crate::NodeList;
 use crate::links::Links;
@@ -27,6 +28,12 @@ pub fn chain_of(alloc: Global, links: &Links, head: u32) -> Result<NodeList, NoM
 /// of one head, and once.
 pub fn chains_part_the_plan()
     ensures { (nodes : List Node) → plan_faults nodes ≡ [] → ChainsPart nodes }
+{}
+
+/// A node that is chained after another works on one row at a time, and takes that one's rows alone.
+pub fn chained_nodes_take_one()
+    ensures { (nodes : List Node) (before node : ℕ) → plan_faults nodes ≡ []
+        → chained_after nodes before ≡ Some node → TakesAfter nodes before node }
 {}
 
 /// A head has one chain.

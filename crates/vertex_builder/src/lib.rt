@@ -26,7 +26,7 @@ mod widening;
 mod widenings;
 
 pub use builder::makeable;
-pub use chain::{chains_part_the_plan, one_chain};
+pub use chain::{chained_nodes_take_one, chains_part_the_plan, one_chain};
 use edge::Edge;
 use edge_list::EdgeList;
 pub use making::one_answer;
