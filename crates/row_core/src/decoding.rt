@@ -123,36 +123,22 @@ fn read_u16(bytes: &[u8]) -> Option<(u16, &[u8])>
     ensures { MatchOption result (NoneBegins (to_be_bytes w16) (λ n. n < 2 ^ 16) bytes.now)
         (λ x. Begins (to_be_bytes w16) (λ n. n < 2 ^ 16) bytes.now x.0 x.1.now) }
 {
-    if bytes.len() < 2 {
-        return None;
-    }
-    let (front, rest) = bytes.split_at(2);
-    let number = u16::from_be_bytes([front[0], front[1]]);
-    Some((number, rest))
+    let (number, rest) = bytes.split_first_chunk::<2>()?;
+    Some((u16::from_be_bytes(*number), rest))
 }
 
 fn read_u32(bytes: &[u8]) -> Option<(u32, &[u8])>
     ensures { MatchOption result (NoneBegins (to_be_bytes w32) (λ n. n < 2 ^ 32) bytes.now)
         (λ x. Begins (to_be_bytes w32) (λ n. n < 2 ^ 32) bytes.now x.0 x.1.now) }
 {
-    if bytes.len() < 4 {
-        return None;
-    }
-    let (front, rest) = bytes.split_at(4);
-    let number = u32::from_be_bytes([front[0], front[1], front[2], front[3]]);
-    Some((number, rest))
+    let (number, rest) = bytes.split_first_chunk::<4>()?;
+    Some((u32::from_be_bytes(*number), rest))
 }
 
 fn read_u64(bytes: &[u8]) -> Option<(u64, &[u8])>
     ensures { MatchOption result (NoneBegins (to_be_bytes w64) (λ n. n < 2 ^ 64) bytes.now)
         (λ x. Begins (to_be_bytes w64) (λ n. n < 2 ^ 64) bytes.now x.0 x.1.now) }
 {
-    if bytes.len() < 8 {
-        return None;
-    }
-    let (front, rest) = bytes.split_at(8);
-    let number = u64::from_be_bytes([
-        front[0], front[1], front[2], front[3], front[4], front[5], front[6], front[7],
-    ]);
-    Some((number, rest))
+    let (number, rest) = bytes.split_first_chunk::<8>()?;
+    Some((u64::from_be_bytes(*number), rest))
 }

@@ -1,4 +1,4 @@
--- What an expression and a test say, variant by variant.
+-- The laws that other crates cite: what an expression and a predicate say, variant by variant.
 use Rattle.std.proofs.Common.{◌≡◌, ℕ, List, get_or, sym, ◌∙◌, ap}
 use Rattle.row_core.specs.Exprs.{value_at, value_step, truth_of, truth_step, compared}
 use Rattle.row_core.specs.declared.value.Value.{Value}

@@ -10,11 +10,11 @@ pub fn holds(alloc: Global, test: &Pred, row: &Row) -> Result<bool, NoMemory>
     requires { IsTrue (pred_within (length row.now) test.now) }
     ensures { IfOk result (λ yes. yes ≡ is_yes (truth_of row.now test.now)) }
 {
-    let truth = judge(alloc, test, row)?;
+    let truth = truth_at(alloc, test, row)?;
     Ok(truth == Truth::Yes)
 }
 
-fn judge(alloc: Global, test: &Pred, row: &Row) -> Result<Truth, NoMemory>
+fn truth_at(alloc: Global, test: &Pred, row: &Row) -> Result<Truth, NoMemory>
     requires { IsTrue (pred_within (length row.now) test.now) }
     ensures { IfOk result (λ truth. truth ≡ truth_of row.now test.now) }
 {
@@ -29,17 +29,17 @@ fn judge(alloc: Global, test: &Pred, row: &Row) -> Result<Truth, NoMemory>
             Ok(truth(matches_null(a.value())))
         }
         Pred::And(a, b) => {
-            let a = judge(alloc, a.get(), row)?;
-            let b = judge(alloc, b.get(), row)?;
+            let a = truth_at(alloc, a.get(), row)?;
+            let b = truth_at(alloc, b.get(), row)?;
             Ok(both(a, b))
         }
         Pred::Or(a, b) => {
-            let a = judge(alloc, a.get(), row)?;
-            let b = judge(alloc, b.get(), row)?;
+            let a = truth_at(alloc, a.get(), row)?;
+            let b = truth_at(alloc, b.get(), row)?;
             Ok(not(both(not(a), not(b))))
         }
         Pred::Not(a) => {
-            let a = judge(alloc, a.get(), row)?;
+            let a = truth_at(alloc, a.get(), row)?;
             Ok(not(a))
         }
     }
