@@ -51,4 +51,5 @@ pub record StopsAt (bytes : List ℕ) (at : ℕ) : Type 0 where
   pub fit : RowsFit rows
   pub before : take at bytes ≡ rows_bytes rows
   pub more : at < length bytes
-  pub none : (row : List Value) (rest : List ℕ) → RowFits row → drop at bytes ≡ row_bytes row ++ rest → ⊥
+  pub none : (row : List Value) (rest : List ℕ) → RowFits row
+      → drop at bytes ≡ row_bytes row ++ rest → ⊥
