@@ -1,5 +1,5 @@
--- How the items are read one after another.
-use Rattle.std.specs.Prelude.{ℕ, ◌&&◌, ◌||◌, Bool, nat_lt, if◌then◌else◌, List, [], ◌∷◌, Option, Some, None, is_some, is_none, Result, Ok, Err}
+-- How one item is read.
+use Rattle.std.specs.Prelude.{ℕ, ◌&&◌, ◌||◌, Bool, nat_lt, if◌then◌else◌, Option, Some, None, is_some, is_none, Result, Ok, Err}
 use Rattle.batch_words.specs.Words.{Item, workers_number, generator_number}
 use Rattle.batch_words.specs.Words.Item.{Workers, Unknown, Plain}
 use Rattle.batch_words.specs.declared.reading.Reading.{Reading}
@@ -23,13 +23,3 @@ after_item takes_number reading (Plain at text) =
     if takes_number && is_none reading.number
     then with_number (generator_number text) at (λ number. record reading { number = Some number })
     else Err (Fault at UnknownWord)
-
-abbrev pub then_items : Result Reading WordError → (Reading → Result Reading WordError) → Result Reading WordError
-then_items (Err fault) rest = Err fault
-then_items (Ok reading) rest = rest reading
-
--- what is read after these items, or their first fault
-abbrev pub after_items : Bool → Reading → List Item → Result Reading WordError
-after_items takes_number reading [] = Ok reading
-after_items takes_number reading (item ∷ items) =
-    then_items (after_item takes_number reading item) (λ next. after_items takes_number next items)
