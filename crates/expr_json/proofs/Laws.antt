@@ -1,5 +1,6 @@
--- How deep spellings are, and that none has a bad number or a float.
-use Rattle.std.proofs.Common.{◌≡◌, ℕ, suc, max, pos, negsuc, Bool, true, false, not, ◌||◌, [], ◌∷◌, codes, refl, sym, ap, ◌∙◌, arith}
+-- The laws that other crates cite: what is spelled is read, what is read is spelled so, how deep
+-- spellings are, and that none has a bad number or a float.
+use Rattle.std.proofs.Common.{◌≡◌, ℕ, suc, max, pos, negsuc, Bool, Some, true, false, not, ◌||◌, [], ◌∷◌, codes, refl, sym, ap, ◌∙◌, arith}
 use Rattle.std.proofs.lemmas.Option.{same_Some}
 use Rattle.serde_json.specs.Data.{Data, null, boolean, number, string, array, object, depth}
 use Rattle.serde_json.specs.Written.{has_float}
@@ -19,8 +20,10 @@ use Rattle.expr_json.specs.declared.connective.Connective.{Connective}
 use Rattle.expr_json.specs.declared.connective.Connective.TheVariants as connective
 use Rattle.expr_json.proofs.ExprCases as e
 use Rattle.expr_json.proofs.TestCases as t
-use Rattle.expr_json.proofs.ExprLaws.{and_parts, operator_word, expr_value-Col, expr_value-Const, expr_value-applied, in_range-Col, in_range-Const, in_range-applied, expr_gives}
-use Rattle.expr_json.proofs.TestLaws.{test_value-Test, test_value-IsNull, test_value-connected, test_value-Not, range-Test, range-IsNull, range-connected, range-Not, test_gives}
+use Rattle.expr_json.proofs.ExprLaws.{and_parts, operator_word, expr_value-Col, expr_value-Const, expr_value-applied, in_range-Col, in_range-Const, in_range-applied}
+use Rattle.expr_json.proofs.ExprLaws as expr
+use Rattle.expr_json.proofs.TestLaws.{test_value-Test, test_value-IsNull, test_value-connected, test_value-Not, range-Test, range-IsNull, range-connected, range-Not}
+use Rattle.expr_json.proofs.TestLaws as test
 
 -- ---- depths
 
@@ -163,6 +166,20 @@ plain-test = t.by_cases (λ x. has_float (test_value x) ≡ false)
     (λ a. ap has_float (test_value-IsNull a) ∙ bad-one _ (plain-expr a))
     (λ c p q at_p at_q. ap has_float (test_value-connected c p q) ∙ bad-two _ _ at_p at_q)
     (λ p at_p. ap has_float (test_value-Not p) ∙ bad-one _ at_p)
+
+-- ---- both ways
+
+pub expr_gives : (e : Expr) → in_range e ≡ true → expr_of (expr_value e) ≡ Some e
+expr_gives = expr.expr_gives
+
+pub test_gives : (t : Pred) → test_in_range t ≡ true → test_of (test_value t) ≡ Some t
+test_gives = test.test_gives
+
+pub expr_takes : (d : Data) (e : Expr) → expr_of d ≡ Some e → (expr_value e ≡ d) × (in_range e ≡ true)
+expr_takes = expr.expr_takes
+
+pub test_takes : (d : Data) (t : Pred) → test_of d ≡ Some t → (test_value t ≡ d) × (test_in_range t ≡ true)
+test_takes = test.test_takes
 
 -- ---- one spelling each
 

@@ -9,8 +9,8 @@ ghost use Rattle.expr_json.specs.Depths.{list_depth, expr_depth, test_depth};
 ghost use Rattle.expr_json.specs.Ranges.{in_range, test_in_range};
 ghost use Rattle.expr_json.specs.Spelling.{expr_value, test_value};
 
-/// The spelling of an expression is as deep as the expression, has no bad number and no float, and is no other
-/// expression's.
+/// The spelling of an expression is as deep as the expression, has no bad number and no float, and
+/// is no other expression's.
 pub fn expr_laws()
     ensures lists { (expr : Expr) → list_depth (expr_value expr) ≡ expr_depth expr }
     ensures nests { (expr : Expr) → depth (expr_value expr) ≡ expr_depth expr }
