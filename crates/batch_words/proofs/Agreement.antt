@@ -1,15 +1,14 @@
--- Reading the items one after another finds their first fault, and what they give.
-use Rattle.std.proofs.Common.{◌≡◌, ◌⊎◌, inl, inr, ℕ, Bool, true, false, not, ◌&&◌, ◌||◌, List, [], ◌∷◌, ◌++◌, Option, Some, None, is_some, is_none, unwrap_or, Result, Ok, Err, nat_lt, if◌then◌else◌, refl, sym, ap, ◌∙◌, append_assoc, append-nil, arith}
+-- An item that is read, or its first fault; and items that are read one after another.
+use Rattle.std.proofs.Common.{◌≡◌, ◌⊎◌, inl, inr, ℕ, Bool, true, false, not, ◌&&◌, ◌||◌, List, [], ◌∷◌, ◌++◌, Option, Some, None, is_some, is_none, Result, Ok, Err, MatchResult, nat_lt, if◌then◌else◌, refl, sym, ap, subst, ◌∙◌, append_assoc, append-nil, arith}
 use Rattle.std.specs.Option.{option_or}
 use Rattle.std.specs.List.{list_any}
 use Rattle.std.proofs.lemmas.List.Folds.{list_any-append}
-use Rattle.batch_words.proofs.Places.{first_fault_after, items_from-InOrder, first_fault-faults_after}
-use Rattle.batch_words.specs.Words.{items_from, Item, FaultAt, is_option, is_plain, workers_in, workers_of, generator_in, generator_of, workers_number, generator_number, fault_if, number_faults, faults_of, generated, run_order, generate_order, first_fault}
+use Rattle.batch_words.proofs.Places.{InOrder, first_fault_after, first_fault-faults_after}
+use Rattle.batch_words.specs.Words.{Item, FaultAt, is_option, is_plain, workers_in, workers_of, generator_in, generator_of, workers_number, generator_number, fault_if, number_faults, faults_of, faults_after, earlier_of, first_fault}
+use Rattle.batch_words.specs.Readings.{Holds, IsFirst, ReadsOn}
 use Rattle.batch_words.specs.Words.Item.{Workers, Unknown, Plain}
-use Rattle.batch_words.specs.Steps.{after_item, after_items, with_number}
+use Rattle.batch_words.proofs.Steps.{after_item, with_number}
 use Rattle.std.proofs.lemmas.Bool.Decides.{nat_tests}
-use Rattle.batch_words.specs.declared.order.Order.{Order}
-use Rattle.batch_words.specs.declared.order.Order.TheVariants.{Run}
 use Rattle.batch_words.specs.declared.reading.Reading.{Reading}
 use Rattle.batch_words.specs.declared.word_error.WordError.{WordError}
 use Rattle.batch_words.specs.declared.word_error.WordError.TheVariants.{Fault}
@@ -27,13 +26,6 @@ pub generator_of-append : (xs ys : List Item) → generator_of (xs ++ ys) ≡ op
 generator_of-append [] ys = refl
 generator_of-append (x ∷ xs) ys = ap (option_or (generator_in x)) (generator_of-append xs ys) ∙ sym (option_or-assoc (generator_in x) (generator_of xs) (generator_of ys))
 
--- a reading holds what the items give
-pub record Gives (reading : Reading) (items : List Item) : Type 0 where
-  pub workers : reading.workers ≡ workers_of items
-  pub number : reading.number ≡ generator_of items
-  pub options : is_some reading.workers ≡ list_any is_option items
-  pub plains : is_some reading.number ≡ list_any is_plain items
-
 or_none : (a : Option ℕ) → option_or a None ≡ a
 or_none None = refl
 or_none (Some x) = refl
@@ -46,20 +38,20 @@ or_true : (a : Bool) → (a || true) ≡ true
 or_true true = refl
 or_true false = refl
 
-Gives-option : (reading : Reading) (earlier : List Item) (at place n : ℕ) (text : List ℕ) → Gives reading earlier →
+Holds-option : (reading : Reading) (earlier : List Item) (at place n : ℕ) (text : List ℕ) → Holds reading earlier →
     reading.workers ≡ None → workers_number text ≡ Some n →
-    Gives (record reading { workers = Some n }) (earlier ++ Workers at (Some (place, text)) ∷ [])
-Gives-option reading earlier at place n text given none is = record {
+    Holds (record reading { workers = Some n }) (earlier ++ Workers at (Some (place, text)) ∷ [])
+Holds-option reading earlier at place n text given none is = record {
   workers = rw (workers_of-append earlier (Workers at (Some (place, text)) ∷ []), ← given.workers, none, is) refl;
   number = rw (generator_of-append earlier (Workers at (Some (place, text)) ∷ []), or_none) given.number;
   options = rw (list_any-append is_option earlier (Workers at (Some (place, text)) ∷ []), or_true) refl;
   plains = rw (list_any-append is_plain earlier (Workers at (Some (place, text)) ∷ []), or_false) given.plains;
 }
 
-Gives-plain : (reading : Reading) (earlier : List Item) (at n : ℕ) (text : List ℕ) → Gives reading earlier →
+Holds-plain : (reading : Reading) (earlier : List Item) (at n : ℕ) (text : List ℕ) → Holds reading earlier →
     reading.number ≡ None → generator_number text ≡ Some n →
-    Gives (record reading { number = Some n }) (earlier ++ Plain at text ∷ [])
-Gives-plain reading earlier at n text given none is = record {
+    Holds (record reading { number = Some n }) (earlier ++ Plain at text ∷ [])
+Holds-plain reading earlier at n text given none is = record {
   workers = rw (workers_of-append earlier (Plain at text ∷ []), or_none) given.workers;
   number = rw (generator_of-append earlier (Plain at text ∷ []), ← given.number, none, is) refl;
   options = rw (list_any-append is_option earlier (Plain at text ∷ []), or_false) given.options;
@@ -77,7 +69,7 @@ pub record Clean (first : Option FaultAt) (after : Result Reading WordError) (it
   pub reading : Reading
   pub first_is : first ≡ None
   pub after_is : after ≡ Ok reading
-  pub given : Gives reading items
+  pub given : Holds reading items
 
 abbrev pub Agrees : Option FaultAt → Result Reading WordError → List Item → Type 0
 Agrees first after items = Faulty first after ⊎ Clean first after items
@@ -97,7 +89,7 @@ missing_first at true =
     let same : nat_lt at at ≡ false = grind (arith, nat_tests) in
     rw (same, and_false) refl
 
-agrees-option : (reading : Reading) (earlier : List Item) (at : ℕ) (number : ℕ × List ℕ) → Gives reading earlier →
+agrees-option : (reading : Reading) (earlier : List Item) (at : ℕ) (number : ℕ × List ℕ) → Holds reading earlier →
     (workers : Option ℕ) → reading.workers ≡ workers → (value : Option ℕ) → workers_number number.1 ≡ value →
     (lower : Bool) → nat_lt at number.0 ≡ lower →
     Agrees
@@ -112,7 +104,7 @@ agrees-option reading earlier at number given None none (Some n) good lower is =
       reading = record reading { workers = Some n };
       first_is = refl;
       after_is = refl;
-      given = Gives-option reading earlier at number.0 n number.1 given none good;
+      given = Holds-option reading earlier at number.0 n number.1 given none good;
     })
 agrees-option reading earlier at number given (Some workers) again (Some n) good lower is =
     inl (record { fault = (at, Repeated); first_is = refl; after_is = refl })
@@ -121,7 +113,7 @@ agrees-option reading earlier at number given (Some workers) again None bad true
 agrees-option reading earlier at number given (Some workers) again None bad false is =
     inl (record { fault = (number.0, BadNumber); first_is = bad_or_repeated at number.0 false is; after_is = refl })
 
-agrees-plain : (takes_number : Bool) (reading : Reading) (earlier : List Item) (at : ℕ) (text : List ℕ) → Gives reading earlier →
+agrees-plain : (takes_number : Bool) (reading : Reading) (earlier : List Item) (at : ℕ) (text : List ℕ) → Holds reading earlier →
     (number : Option ℕ) → reading.number ≡ number → (value : Option ℕ) → generator_number text ≡ value →
     Agrees
     (first_fault (if takes_number && not (is_some number) then fault_if (is_none value) at BadNumber else (at, UnknownWord) ∷ []))
@@ -138,10 +130,10 @@ agrees-plain true reading earlier at text given None none (Some n) good =
       reading = record reading { number = Some n };
       first_is = refl;
       after_is = refl;
-      given = Gives-plain reading earlier at n text given none good;
+      given = Holds-plain reading earlier at n text given none good;
     })
 
-agrees-item : (takes_number : Bool) (reading : Reading) (earlier : List Item) (item : Item) → Gives reading earlier →
+agrees-item : (takes_number : Bool) (reading : Reading) (earlier : List Item) (item : Item) → Holds reading earlier →
     Agrees (first_fault (faults_of takes_number earlier item)) (after_item takes_number reading item) (earlier ++ item ∷ [])
 agrees-item takes_number reading earlier (Workers at None) given =
     inl (record { fault = (at, MissingNumber); first_is = missing_first at (list_any is_option earlier); after_is = refl })
@@ -152,48 +144,96 @@ agrees-item takes_number reading earlier (Unknown at) given =
 agrees-item takes_number reading earlier (Plain at text) given =
     rw (← given.plains) (agrees-plain takes_number reading earlier at text given reading.number refl (generator_number text) refl)
 
-pub agrees : (takes_number : Bool) (reading : Reading) (earlier later : List Item) → Gives reading earlier →
-    Agrees (first_fault_after takes_number earlier later) (after_items takes_number reading later) (earlier ++ later)
-agrees takes_number reading earlier [] given =
-    inr (record { reading = reading; first_is = refl; after_is = refl; given = rw append-nil given })
-agrees takes_number reading earlier (item ∷ items) given =
-    elim (agrees-item takes_number reading earlier item given) [
-      | inl bad ↦ inl (record { fault = bad.fault; first_is = rw bad.first_is refl; after_is = rw bad.after_is refl })
-      | inr clean ↦
-          rw (clean.first_is, clean.after_is) (rw append_assoc at (agrees takes_number clean.reading (earlier ++ item ∷ []) items clean.given))
-    ]
+no_first : (faults : List FaultAt) → first_fault faults ≡ None → faults ≡ []
+no_first [] none = refl
+no_first (fault ∷ faults) none = absurd (some (first_fault faults) none)
+  where
+    some : (rest : Option FaultAt) → earlier_of fault rest ≡ None → ⊥
+    some None is = cc
+    some (Some other) is = cc
 
--- nothing is read yet
-abbrev pub empty : Reading
-empty = record { workers = None; number = None }
+-- an item that is read, or its first fault
+pub step_read : (takes_number : Bool) (old new : Reading) (item : Item) (result : Result (Unit {0}) WordError) →
+    MatchResult result (λ _. after_item takes_number old item ≡ Ok new) (λ error. after_item takes_number old item ≡ Err error) →
+    ReadsOn takes_number old new (item ∷ []) (λ _. []) result
+step_read takes_number old new item result step earlier held = by (agrees-item takes_number old earlier item held) result step
+  where
+    by : Agrees (first_fault (faults_of takes_number earlier item)) (after_item takes_number old item) (earlier ++ item ∷ []) → (result : Result (Unit {0}) WordError) →
+        MatchResult result (λ _. after_item takes_number old item ≡ Ok new) (λ error. after_item takes_number old item ≡ Err error) →
+        MatchResult result
+        (λ x. (read : List Item) × (item ∷ [] ≡ read ++ []) × (faults_after takes_number earlier read ≡ []) × Holds new (earlier ++ read))
+        (λ error. IsFirst (faults_after takes_number earlier (item ∷ [])) error)
+    by (inl bad) (Ok x) step = absurd cc
+    by (inl bad) (Err error) step = (bad.fault, ap first_fault (append-nil (faults_of takes_number earlier item)) ∙ bad.first_is, cc)
+    by (inr clean) (Ok x) step = (
+      item ∷ [],
+      refl,
+      append-nil (faults_of takes_number earlier item) ∙ no_first (faults_of takes_number earlier item) clean.first_is,
+      (let same : clean.reading ≡ new = cc (clean.after_is, step) in subst (λ (reading : Reading). Holds reading (earlier ++ item ∷ [])) same clean.given),
+    )
+    by (inr clean) (Err error) step = absurd cc
 
-Gives-empty : Gives empty []
-Gives-empty = record { workers = refl; number = refl; options = refl; plains = refl }
+-- the first of these items is read
+pub read_ok : (takes_number : Bool) (old new : Reading) (item : Item) (items rest earlier : List Item) →
+    items ≡ item ∷ rest → ReadsOn takes_number old new (item ∷ []) (λ (_ : Unit {0}). []) (Ok tt) → Holds old earlier →
+    (read : List Item) × (items ≡ read ++ rest) × (faults_after takes_number earlier read ≡ []) × Holds new (earlier ++ read)
+read_ok takes_number old new item items rest earlier are reads held =
+    let (read, is, none, holds) = reads earlier held in
+    (read, are ∙ ap (λ (front : List Item). front ++ rest) (is ∙ append-nil read), none, holds)
 
-abbrev pub run_by : Result Reading WordError → Result Order WordError
-run_by (Err fault) = Err fault
-run_by (Ok reading) = Ok (Run (unwrap_or reading.workers 0))
+-- the first of these items has a fault: it is their first one
+pub read_err : (takes_number : Bool) (old new : Reading) (item : Item) (items rest earlier : List Item) (at : ℕ) (error : WordError) →
+    items ≡ item ∷ rest → InOrder at items → ReadsOn takes_number old new (item ∷ []) (λ (_ : Unit {0}). []) (Err error) → Holds old earlier →
+    IsFirst (faults_after takes_number earlier items) error
+read_err takes_number old new item items rest earlier at error are order reads held =
+    let (fault, first, is) = reads earlier held in
+    let own : first_fault (faults_of takes_number earlier item) ≡ Some fault = ap first_fault (sym (append-nil (faults_of takes_number earlier item))) ∙ first in (
+      fault,
+      first_fault-faults_after at takes_number earlier items order ∙ ap (first_fault_after takes_number earlier) are
+          ∙ ap (λ (f : Option FaultAt). option_or f (first_fault_after takes_number (earlier ++ item ∷ []) rest)) own,
+      is,
+    )
 
-abbrev pub generated_by : Result Reading WordError → Result Order WordError
-generated_by (Err fault) = Err fault
-generated_by (Ok reading) = generated reading.number (unwrap_or reading.workers 0)
+-- the faults of items, and of those behind them
+pub faults_after-append : (takes_number : Bool) (earlier xs ys : List Item) →
+    faults_after takes_number earlier (xs ++ ys) ≡ faults_after takes_number earlier xs ++ faults_after takes_number (earlier ++ xs) ys
+faults_after-append takes_number earlier [] ys = ap (λ (before : List Item). faults_after takes_number before ys) (sym (append-nil earlier))
+faults_after-append takes_number earlier (x ∷ xs) ys =
+    ap (λ (faults : List FaultAt). faults_of takes_number earlier x ++ faults) (faults_after-append takes_number (earlier ++ x ∷ []) xs ys)
+    ∙ sym (append_assoc (faults_of takes_number earlier x) (faults_after takes_number (earlier ++ x ∷ []) xs) (faults_after takes_number ((earlier ++ x ∷ []) ++ xs) ys))
+    ∙ ap (λ (before : List Item). (faults_of takes_number earlier x ++ faults_after takes_number (earlier ++ x ∷ []) xs) ++ faults_after takes_number before ys) (append_assoc earlier (x ∷ []) xs)
 
-pub run_order-is : (words : List (List ℕ)) →
-    run_order (items_from 1 words) ≡ run_by (after_items false empty (items_from 1 words))
-run_order-is words =
-    let items : List Item = items_from 1 words in
-    rw (first_fault-faults_after 1 false [] items (items_from-InOrder 1 words))
-    (elim (agrees false empty [] items Gives-empty) [
-      | inl bad ↦ rw (bad.first_is, bad.after_is) refl
-      | inr clean ↦ rw (clean.first_is, clean.after_is, ← clean.given.workers) refl
-    ])
+pub Holds-empty : Holds (record { workers = None; number = None }) []
+Holds-empty = record { workers = refl; number = refl; options = refl; plains = refl }
 
-pub generate_order-is : (words : List (List ℕ)) →
-    generate_order (items_from 1 words) ≡ generated_by (after_items true empty (items_from 1 words))
-generate_order-is words =
-    let items : List Item = items_from 1 words in
-    rw (first_fault-faults_after 1 true [] items (items_from-InOrder 1 words))
-    (elim (agrees true empty [] items Gives-empty) [
-      | inl bad ↦ rw (bad.first_is, bad.after_is) refl
-      | inr clean ↦ rw (clean.first_is, clean.after_is, ← clean.given.workers, ← clean.given.number) refl
-    ])
+-- the items read so far, of which none has a fault
+pub record HasRead (takes_number : Bool) (reading : Reading) (items left : List Item) : Type 0 where
+  pub read : List Item
+  pub are : items ≡ read ++ left
+  pub none : faults_after takes_number [] read ≡ []
+  pub holds : Holds reading read
+
+pub read_more : (takes_number : Bool) (old new : Reading) (items left later : List Item) (had : HasRead takes_number old items left) →
+    (more : List Item) × (left ≡ more ++ later) × (faults_after takes_number had.read more ≡ []) × Holds new (had.read ++ more) → HasRead takes_number new items later
+read_more takes_number old new items left later had (more, are, none, holds) = record {
+  read = had.read ++ more;
+  are = had.are ∙ ap (λ (rest : List Item). had.read ++ rest) are ∙ sym (append_assoc had.read more later);
+  none = faults_after-append takes_number [] had.read more ∙ rw (had.none, none) refl;
+  holds = holds;
+}
+
+-- nothing is left
+pub read_all : (takes_number : Bool) (reading : Reading) (items : List Item) → HasRead takes_number reading items [] → (faults_after takes_number [] items ≡ []) × Holds reading items
+read_all takes_number reading items had =
+    let whole : had.read ≡ items = sym (had.are ∙ append-nil had.read) in
+    (sym (ap (faults_after takes_number []) whole) ∙ had.none, subst (Holds reading) whole had.holds)
+
+-- the first fault of what is left is that of all items
+pub fault_left : (takes_number : Bool) (reading : Reading) (items left : List Item) (error : WordError) (had : HasRead takes_number reading items left) →
+    IsFirst (faults_after takes_number had.read left) error → IsFirst (faults_after takes_number [] items) error
+fault_left takes_number reading items left error had (fault, first, is) = (
+  fault,
+  ap (λ (all : List Item). first_fault (faults_after takes_number [] all)) had.are
+      ∙ ap first_fault (faults_after-append takes_number [] had.read left ∙ ap (λ (faults : List FaultAt). faults ++ faults_after takes_number had.read left) had.none) ∙ first,
+  is,
+)

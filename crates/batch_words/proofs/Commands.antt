@@ -1,17 +1,15 @@
 -- What the command alone decides, and the answers that are never given.
-use Rattle.std.proofs.Common.{◌≡◌, ◌≢◌, ◌<◌, ℕ, Bool, true, false, List, [], ◌∷◌, length, map, get_or, Option, None, Some, Result, Ok, Err, String, string_bytes, codes, if◌then◌else◌, arith, refl, ap, IfErr, nat_lt, is_some, is_none, ◌&&◌, ◌||◌}
+use Rattle.std.proofs.Common.{◌≡◌, ◌≢◌, ◌<◌, ℕ, Bool, true, false, List, [], ◌∷◌, length, map, get_or, Option, None, Some, Result, Err, String, string_bytes, codes, if◌then◌else◌, arith, refl, ap, IfErr, is_none, not, ◌&&◌, ◌++◌}
 use Rattle.std.specs.Bool.{Decides}
+use Rattle.std.specs.List.{list_any}
 use Rattle.std.specs.Str.{bytes_eq}
 use Rattle.std.proofs.lemmas.Slice.Eq.{bytes_eq-Decides}
-use Rattle.batch_words.specs.Words.{Item, items_from, FaultAt, unless_fault, generated, run_order, generate_order, meaning, workers_number, generator_number}
+use Rattle.batch_words.specs.Words.{Item, FaultAt, is_option, is_plain, fault_if, faults_of, faults_after, is_before, earlier_of, first_fault, unless_fault, generated, run_order, generate_order, meaning, workers_number, generator_number}
 use Rattle.batch_words.specs.Words.Item.{Workers, Unknown, Plain}
-use Rattle.batch_words.specs.Steps.{with_number, after_item, then_items, after_items}
 use Rattle.batch_words.specs.declared.order.Order.{Order}
-use Rattle.batch_words.specs.declared.reading.Reading.{Reading}
 use Rattle.batch_words.specs.declared.word_error.WordError.{WordError}
 use Rattle.batch_words.specs.declared.word_error.WordError.TheVariants.{Fault, NoMemory}
-use Rattle.batch_words.specs.declared.word_kind.WordKind.TheVariants.{UnknownCommand, OtherCall}
-use Rattle.batch_words.proofs.Agreement.{empty, run_by, generated_by, run_order-is, generate_order-is}
+use Rattle.batch_words.specs.declared.word_kind.WordKind.TheVariants.{UnknownCommand, MissingNumber, BadNumber, OtherCall}
 
 decides_false : {P : Type 0} (test : Bool) → Decides test P → ¬ P → test ≡ false
 decides_false true decides not = absurd (not (decides.0 refl))
@@ -49,50 +47,68 @@ pub generate_order-memory : (items : List Item) → generate_order items ≢ Err
 generate_order-memory items = unless_fault-memory _ _ (generated-memory _ _)
 
 -- no fault is that of another call's command
-abbrev pub NeverOtherCall : {T : Type 0} → Result T WordError → Type 0
+AreKnown : List FaultAt → Type 0
+AreKnown [] = Unit {0}
+AreKnown (fault ∷ faults) = (fault.1 ≢ OtherCall) × AreKnown faults
+
+append_known : (a b : List FaultAt) → AreKnown a → AreKnown b → AreKnown (a ++ b)
+unfolding AreKnown
+append_known [] b first second = second
+append_known (fault ∷ a) b first second = (first.0, append_known a b first.1 second)
+
+choice_known : (test : Bool) (a b : List FaultAt) → AreKnown a → AreKnown b → AreKnown (if test then a else b)
+choice_known true a b first second = first
+choice_known false a b first second = second
+
+faults_of_known : (takes_number : Bool) (earlier : List Item) (item : Item) → AreKnown (faults_of takes_number earlier item)
+unfolding AreKnown
+faults_of_known takes_number earlier (Workers at None) =
+    append_known ((at, MissingNumber) ∷ []) _ ((λ is. cc), tt) (choice_known (list_any is_option earlier) _ [] ((λ is. cc), tt) tt)
+faults_of_known takes_number earlier (Workers at (Some number)) =
+    append_known (fault_if (is_none (workers_number number.1)) number.0 BadNumber) _
+    (choice_known (is_none (workers_number number.1)) _ [] ((λ is. cc), tt) tt) (choice_known (list_any is_option earlier) _ [] ((λ is. cc), tt) tt)
+faults_of_known takes_number earlier (Unknown at) = ((λ is. cc), tt)
+faults_of_known takes_number earlier (Plain at text) =
+    choice_known (takes_number && not (list_any is_plain earlier)) _ _ (choice_known (is_none (generator_number text)) _ [] ((λ is. cc), tt) tt) ((λ is. cc), tt)
+
+faults_known : (takes_number : Bool) (earlier items : List Item) → AreKnown (faults_after takes_number earlier items)
+unfolding AreKnown
+faults_known takes_number earlier [] = tt
+faults_known takes_number earlier (item ∷ items) =
+    append_known (faults_of takes_number earlier item) _ (faults_of_known takes_number earlier item) (faults_known takes_number (earlier ++ item ∷ []) items)
+
+IsKnown : Option FaultAt → Type 0
+IsKnown None = Unit {0}
+IsKnown (Some fault) = fault.1 ≢ OtherCall
+
+earlier_known : (fault : FaultAt) (rest : Option FaultAt) → fault.1 ≢ OtherCall → IsKnown rest → IsKnown (earlier_of fault rest)
+unfolding IsKnown
+earlier_known fault None first second = first
+earlier_known fault (Some other) first second = either (is_before other fault)
+  where
+    either : (test : Bool) → (if test then other else fault).1 ≢ OtherCall
+    either true = second
+    either false = first
+
+first_known : (faults : List FaultAt) → AreKnown faults → IsKnown (first_fault faults)
+unfolding AreKnown IsKnown
+first_known [] known = tt
+first_known (fault ∷ faults) known = earlier_known fault (first_fault faults) known.0 (first_known faults known.1)
+
+abbrev NeverOtherCall : Result Order WordError → Type 0
 NeverOtherCall result = IfErr result (λ fault. (at : ℕ) → fault ≢ Fault at OtherCall)
 
-choice_never : {T : Type 0} (test : Bool) (a b : Result T WordError) → NeverOtherCall a → NeverOtherCall b → NeverOtherCall (if test then a else b)
-choice_never true a b first second = first
-choice_never false a b first second = second
+unless_fault-never : (first : Option FaultAt) (order : Result Order WordError) → IsKnown first → NeverOtherCall order → NeverOtherCall (unless_fault first order)
+unfolding IsKnown
+unless_fault-never None order known never = never
+unless_fault-never (Some fault) order known never = λ at is. known cc
 
-with_number_never : (number : Option ℕ) (at : ℕ) (reading : ℕ → Reading) → NeverOtherCall (with_number number at reading)
-with_number_never None at reading = λ place is. cc
-with_number_never (Some number) at reading = tt
+generated-never : (number : Option ℕ) (workers : ℕ) → NeverOtherCall (generated number workers)
+generated-never None workers = λ at is. cc
+generated-never (Some number) workers = tt
 
-after_item_never : (takes_number : Bool) (reading : Reading) (item : Item) → NeverOtherCall (after_item takes_number reading item)
-after_item_never takes_number reading (Workers at None) = λ place is. cc
-after_item_never takes_number reading (Workers at (Some number)) =
-    choice_never (is_some reading.workers && (is_some (workers_number number.1) || nat_lt at number.0)) _ _ (λ place is. cc) (with_number_never (workers_number number.1) _ _)
-after_item_never takes_number reading (Unknown at) = λ place is. cc
-after_item_never takes_number reading (Plain at text) =
-    choice_never (takes_number && is_none reading.number) _ _ (with_number_never (generator_number text) _ _) (λ place is. cc)
+pub run_order-never : (items : List Item) → NeverOtherCall (run_order items)
+run_order-never items = unless_fault-never _ _ (first_known _ (faults_known false [] items)) tt
 
-then_items_never : (first : Result Reading WordError) (rest : Reading → Result Reading WordError) →
-    NeverOtherCall first → ((reading : Reading) → NeverOtherCall (rest reading)) → NeverOtherCall (then_items first rest)
-then_items_never (Err fault) rest first each = first
-then_items_never (Ok reading) rest first each = each reading
-
-after_items_never : (takes_number : Bool) (reading : Reading) (items : List Item) → NeverOtherCall (after_items takes_number reading items)
-after_items_never takes_number reading [] = tt
-after_items_never takes_number reading (item ∷ items) =
-    then_items_never (after_item takes_number reading item) (λ next. after_items takes_number next items)
-    (after_item_never takes_number reading item) (λ next. after_items_never takes_number next items)
-
-run_by_never : (result : Result Reading WordError) → NeverOtherCall result → NeverOtherCall (run_by result)
-run_by_never (Err fault) never = never
-run_by_never (Ok reading) never = tt
-
-generated_never : (number : Option ℕ) (workers : ℕ) → NeverOtherCall (generated number workers)
-generated_never None workers = λ place is. cc
-generated_never (Some number) workers = tt
-
-generated_by_never : (result : Result Reading WordError) → NeverOtherCall result → NeverOtherCall (generated_by result)
-generated_by_never (Err fault) never = never
-generated_by_never (Ok reading) never = generated_never _ _
-
-pub run_order-never : (words : List (List ℕ)) → NeverOtherCall (run_order (items_from 1 words))
-run_order-never words = rw (run_order-is words) (run_by_never _ (after_items_never false empty (items_from 1 words)))
-
-pub generate_order-never : (words : List (List ℕ)) → NeverOtherCall (generate_order (items_from 1 words))
-generate_order-never words = rw (generate_order-is words) (generated_by_never _ (after_items_never true empty (items_from 1 words)))
+pub generate_order-never : (items : List Item) → NeverOtherCall (generate_order items)
+generate_order-never items = unless_fault-never _ _ (first_known _ (faults_known true [] items)) (generated-never _ _)

@@ -1,11 +1,7 @@
 -- The items of words, from a place on.
-use Rattle.std.proofs.Common.{◌≡◌, ℕ, ◌+◌, ◌<◌, ◌≤◌, List, [], ◌∷◌, length, drop, get_or, true, false, Some, None, Bool, Err, arith, refl, ap, ◌∙◌}
+use Rattle.std.proofs.Common.{◌≡◌, ℕ, ◌+◌, ◌<◌, ◌≤◌, List, [], ◌∷◌, length, drop, get_or, true, false, Some, None, arith, refl, ap, ◌∙◌}
 use Rattle.std.specs.Str.{bytes_eq}
 use Rattle.std.proofs.lemmas.List.{drop_more, drop_all}
-use Rattle.batch_words.specs.Steps.{after_item, after_items, then_items}
-use Rattle.batch_words.specs.declared.reading.Reading.{Reading}
-use Rattle.batch_words.specs.declared.word_error.WordError.TheVariants.{Fault}
-use Rattle.batch_words.specs.declared.word_kind.WordKind.TheVariants.{MissingNumber}
 use Rattle.batch_words.specs.Words.{option_name, lone_item, items_from}
 use Rattle.batch_words.specs.Words.Item.{Workers}
 
@@ -35,22 +31,3 @@ pub items_from-drop_last : (texts : List (List ℕ)) (at : ℕ) → at < length 
 items_from-drop_last texts at inside last option =
     let none : drop (at + 1) texts ≡ [] = grind (arith, drop_all) in
     rw (drop_more texts at [] inside, none) (rw option)
-
--- an option with its number in the next word is read
-pub after_items-option : (takes_number : Bool) (reading : Reading) (texts : List (List ℕ)) (at : ℕ) (number : List ℕ) →
-    at + 1 < length texts → bytes_eq (get_or texts at []) option_name ≡ true → number ≡ get_or texts (at + 1) [] →
-    after_items takes_number reading (items_from at (drop at texts))
-    ≡ then_items (after_item false reading (Workers at (Some (at + 1, number)))) (λ next. after_items takes_number next (items_from (at + 2) (drop (at + 2) texts)))
-after_items-option takes_number reading texts at number inside option is =
-    rw (items_from-drop_option texts at inside option, is) refl
-
-pub after_items-lone : (takes_number : Bool) (reading : Reading) (texts : List (List ℕ)) (at : ℕ) →
-    at < length texts → bytes_eq (get_or texts at []) option_name ≡ false →
-    after_items takes_number reading (items_from at (drop at texts))
-    ≡ then_items (after_item takes_number reading (lone_item at (get_or texts at []))) (λ next. after_items takes_number next (items_from (at + 1) (drop (at + 1) texts)))
-after_items-lone takes_number reading texts at inside other = rw (items_from-drop_lone texts at inside other) refl
-
-pub after_items-last : (takes_number : Bool) (reading : Reading) (texts : List (List ℕ)) (at : ℕ) →
-    at + 1 ≡ length texts → bytes_eq (get_or texts at []) option_name ≡ true →
-    after_items takes_number reading (items_from at (drop at texts)) ≡ Err (Fault at MissingNumber)
-after_items-last takes_number reading texts at last option = rw (items_from-drop_last texts at (omega arith) (omega arith) option) refl

@@ -1,5 +1,6 @@
-pub mod Agreement
-pub mod Commands
-pub mod Items
-pub mod Numerals
-pub mod Places
+mod Agreement
+mod Commands
+mod Items
+mod Numerals
+mod Places
+mod Steps

@@ -7,6 +7,7 @@ use Rattle.std.specs.Str.{bytes_eq}
 use Rattle.std.specs.Str.Parse.{digits_value}
 use Rattle.batch_words.specs.declared.order.Order.{Order}
 use Rattle.batch_words.specs.declared.order.Order.TheVariants.{Run, Generate, Check, Plan, Reference, Events}
+use Rattle.batch_words.specs.declared.reading.TheConstants.{WORKERS_LIMIT, GENERATOR_LIMIT}
 use Rattle.batch_words.specs.declared.word_error.WordError.{WordError}
 use Rattle.batch_words.specs.declared.word_error.WordError.TheVariants.{Fault}
 use Rattle.batch_words.specs.declared.word_kind.WordKind.{WordKind}
@@ -24,17 +25,18 @@ number_in least greatest text =
 
 -- a number of workers, and a generator's number
 abbrev pub workers_number : List ℕ → Option ℕ
-workers_number = number_in 0 64
+workers_number = number_in 0 WORKERS_LIMIT
 
 abbrev pub generator_number : List ℕ → Option ℕ
-generator_number = number_in 1 100000
+generator_number = number_in 1 GENERATOR_LIMIT
 
--- the words after a command, taken together: an option with the place and the text of its number, another word that begins as an option does, or a plain word
+-- an option with the place and text of its number, another word that begins as an option, or a word
 pub data Item : Type 0 where
   Workers : (at : ℕ) (number : Option (ℕ × List ℕ)) → Item
   Unknown : (at : ℕ) → Item
   Plain : (at : ℕ) (text : List ℕ) → Item
 
+-- the option's name
 abbrev pub option_name : List ℕ
 option_name = codes "--workers"
 
@@ -53,11 +55,13 @@ items_from at (word ∷ next ∷ words) =
     if bytes_eq word option_name then Workers at (Some (at + 1, next)) ∷ items_from (at + 2) words
     else lone_item at word ∷ items_from (at + 1) (next ∷ words)
 
+-- whether the item is the option
 abbrev pub is_option : Item → Bool
 is_option (Workers at number) = true
 is_option (Unknown at) = false
 is_option (Plain at text) = false
 
+-- whether the item is a word that is no option
 abbrev pub is_plain : Item → Bool
 is_plain (Workers at number) = false
 is_plain (Unknown at) = false
@@ -78,10 +82,12 @@ number_faults at (Some number) = fault_if (is_none (workers_number number.1)) nu
 
 -- the faults of an item that stands after these, where one plain word may be a number or none may
 abbrev pub faults_of : Bool → List Item → Item → List FaultAt
-faults_of takes_number earlier (Workers at number) = number_faults at number ++ fault_if (list_any is_option earlier) at Repeated
+faults_of takes_number earlier (Workers at number) =
+    number_faults at number ++ fault_if (list_any is_option earlier) at Repeated
 faults_of takes_number earlier (Unknown at) = (at, UnknownWord) ∷ []
 faults_of takes_number earlier (Plain at text) =
-    if takes_number && not (list_any is_plain earlier) then fault_if (is_none (generator_number text)) at BadNumber
+    if takes_number && not (list_any is_plain earlier)
+    then fault_if (is_none (generator_number text)) at BadNumber
     else (at, UnknownWord) ∷ []
 
 -- the faults of items that stand after these
@@ -104,6 +110,7 @@ rank_of OtherCall = 6
 abbrev pub is_before : FaultAt → FaultAt → Bool
 is_before a b = nat_lt a.0 b.0 || (a.0 == b.0 && nat_lt (rank_of a.1) (rank_of b.1))
 
+-- the one that is told first, if there is another
 abbrev pub earlier_of : FaultAt → Option FaultAt → Option FaultAt
 earlier_of a None = Some a
 earlier_of a (Some b) = Some (if is_before b a then b else a)
@@ -120,6 +127,7 @@ workers_in (Workers at (Some number)) = workers_number number.1
 workers_in (Unknown at) = None
 workers_in (Plain at text) = None
 
+-- the first number of workers that they give
 abbrev pub workers_of : List Item → Option ℕ
 workers_of [] = None
 workers_of (item ∷ items) = option_or (workers_in item) (workers_of items)
@@ -130,6 +138,7 @@ generator_in (Workers at number) = None
 generator_in (Unknown at) = None
 generator_in (Plain at text) = generator_number text
 
+-- the first generator's number that they give
 abbrev pub generator_of : List Item → Option ℕ
 generator_of [] = None
 generator_of (item ∷ items) = option_or (generator_in item) (generator_of items)
@@ -139,16 +148,21 @@ abbrev pub unless_fault : Option FaultAt → Result Order WordError → Result O
 unless_fault None order = order
 unless_fault (Some fault) order = Err (Fault fault.0 fault.1)
 
+-- the order of a generated job, if there is its number
 abbrev pub generated : Option ℕ → ℕ → Result Order WordError
 generated None workers = Err (Fault 0 MissingNumber)
 generated (Some n) workers = Ok (Generate n workers)
 
+-- the order of a run with these items
 abbrev pub run_order : List Item → Result Order WordError
-run_order items = unless_fault (first_fault (faults_after false [] items)) (Ok (Run (unwrap_or (workers_of items) 0)))
+run_order items =
+    unless_fault (first_fault (faults_after false [] items)) (Ok (Run (unwrap_or (workers_of items) 0)))
 
 -- a generator's number that is not there is found last
 abbrev pub generate_order : List Item → Result Order WordError
-generate_order items = unless_fault (first_fault (faults_after true [] items)) (generated (generator_of items) (unwrap_or (workers_of items) 0))
+generate_order items =
+    unless_fault (first_fault (faults_after true [] items))
+    (generated (generator_of items) (unwrap_or (workers_of items) 0))
 
 -- the order of a command that takes no further word
 abbrev pub alone : Order → List (List ℕ) → Result Order WordError

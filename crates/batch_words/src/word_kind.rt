@@ -1,4 +1,5 @@
-/// What is wrong with a word. Of several faults of one word, the one that stands first here is told.
+/// What is wrong with a word. Of several faults of one word, the one that stands first here is
+/// told.
 #[derive(Clone, Copy, Debug, PartialEq, Eq)]
 pub enum WordKind {
     NoCommand,

@@ -1,6 +1,6 @@
-ghost use Rattle.std.specs.Prelude.{◌≡◌, ℕ, ◌<◌, ◌≢◌, length, drop, map, None, string_bytes, Err, IfErr};
-ghost use Rattle.batch_words.specs.Words.{meaning, run_order, generate_order, alone, items_from};
-ghost use Rattle.batch_words.specs.Steps.{after_items};
+ghost use Rattle.std.specs.Prelude.{◌≡◌, ℕ, ◌<◌, ◌≢◌, [], length, drop, map, string_bytes, Err, IfErr, MatchResult};
+ghost use Rattle.batch_words.specs.Words.{meaning, run_order, generate_order, alone, faults_after, items_from};
+ghost use Rattle.batch_words.specs.Readings.{Holds, IsFirst};
 ghost use Rattle.batch_words.specs.declared.word_kind.WordKind.TheVariants.{OtherCall};
 
 use crate::reading::{Reading, fault};
@@ -52,10 +52,12 @@ fn generate_order(words: &[String]) -> Result<Order, WordError>
     }
 }
 
-/// The options, and the number if the command takes one, of the words after the command.
+// The options, and the number if the command takes one, of the words after the command.
 fn read_rest(takes_number: bool, words: &[String]) -> Result<Reading, WordError>
     requires { 0 < length words.now }
-    ensures { result ≡ after_items takes_number (record { workers = None; number = None }) (items_from 1 (drop 1 (map string_bytes words.now))) }
+    ensures { let items = items_from 1 (drop 1 (map string_bytes words.now)) in MatchResult result
+        (λ reading. (faults_after takes_number [] items ≡ []) × Holds reading items)
+        (λ error. IsFirst (faults_after takes_number [] items) error) }
 {
     let mut reading = Reading {
         workers: None,
@@ -68,7 +70,7 @@ fn read_rest(takes_number: bool, words: &[String]) -> Result<Reading, WordError>
     Ok(reading)
 }
 
-/// The order of a command that takes no further word.
+// The order of a command that takes no further word.
 fn lone_order(order: Order, words: &[String]) -> Result<Order, WordError>
     requires { 0 < length words.now }
     ensures { result ≡ alone order (drop 1 (map string_bytes words.now)) }

@@ -25,8 +25,10 @@ pub record HasCells (text : List ℕ) (cells : List (List ℕ)) (writer : Writer
   pub setup : writer_setup writer ≡ any_width
   pub written : text_in writer ≡ text ++ row_body any_width cells
   pub fields : fields_written writer ≡ length cells
-  pub blank : is_blank any_width cells ≡ (not (has_written writer) && ((length cells == 0) || (length cells == 1)))
+  pub blank : is_blank any_width cells
+      ≡ (not (has_written writer) && ((length cells == 0) || (length cells == 1)))
 
 -- to whatever cells were written this one was added
 abbrev pub AddsCell : Writer (Vec ℕ) → Writer (Vec ℕ) → List ℕ → Type 0
-AddsCell old new cell = (text : List ℕ) (cells : List (List ℕ)) → length cells < 2 ^ 64 - 1 → HasCells text cells old → HasCells text (cells ++ cell ∷ []) new
+AddsCell old new cell = (text : List ℕ) (cells : List (List ℕ)) → length cells < 2 ^ 64 - 1
+    → HasCells text cells old → HasCells text (cells ++ cell ∷ []) new

@@ -40,8 +40,8 @@ impl SinkLines {
         }
     }
 
-    /// The lines with those of further rows behind them, a line for each row, as docs/FORMATS.md says.
-    /// Rows may differ in width.
+    /// The lines with those of further rows behind them, a line for each row, as docs/FORMATS.md
+    /// says. Rows may differ in width.
     pub fn with_rows(self, rows: &Rows) -> Result<Self, NoMemory>
         ensures { IfOk result (λ lines. lines ≡ self ++ map line_of rows.now) }
     {
@@ -60,8 +60,8 @@ impl SinkLines {
     }
 }
 
-// Writes the rows' lines behind the text, and notes their lengths. A flush after each row shows where
-// its line ends.
+// Writes the rows' lines behind the text, and notes their lengths. A flush after each row shows
+// where its line ends.
 fn write_lines(text: Vec<u8>, mut lengths: Vec<usize>, rows: &[Row]) -> Result<SinkLines, NoMemory>
     requires { total lengths.items ≡ length text.items }
     ensures { IfOk result (λ lines. lines ≡ cut lengths.items text.items ++ map line_of rows.now) }
@@ -84,7 +84,8 @@ fn write_lines(text: Vec<u8>, mut lengths: Vec<usize>, rows: &[Row]) -> Result<S
 // The lines as parts of the text. The lengths' memory is given back at the end.
 fn slices(alloc: Global, text: &[u8], lengths: Vec<usize>) -> Result<Vec<&[u8]>, NoMemory>
     requires { total lengths.items ≡ length text.now }
-    ensures { IfOk result (λ lines. map (λ line. line.now) lines.items ≡ cut lengths.items text.now) }
+    ensures { IfOk result
+        (λ lines. map (λ line. line.now) lines.items ≡ cut lengths.items text.now) }
 {
     let mut lines = Vec::with_capacity(alloc, lengths.len())?;
     let mut rest = text;
@@ -98,7 +99,8 @@ fn slices(alloc: Global, text: &[u8], lengths: Vec<usize>) -> Result<Vec<&[u8]>,
 
 // Lines that tie are the same bytes, so the sort needn't be stable.
 fn sort(lines: &mut Vec<&[u8]>)
-    ensures { map (λ line. line.now) lines.new.items ≡ ascending line_less (map (λ line. line.now) lines.old.items) }
+    ensures { map (λ line. line.now) lines.new.items
+        ≡ ascending line_less (map (λ line. line.now) lines.old.items) }
 {
     sorted_texts_ascend();
     lines.sort_unstable_by(|a, b| a.cmp(b));
@@ -106,7 +108,8 @@ fn sort(lines: &mut Vec<&[u8]>)
 
 // The lines one after the other, in a text with room for this many bytes at first.
 fn joined(alloc: Global, lines: &[&[u8]], room: usize) -> Result<Bytes, NoMemory>
-    ensures { IfOk result (λ text. text ≡ flat_map (λ line. line) (map (λ line. line.now) lines.now)) }
+    ensures { IfOk result
+        (λ text. text ≡ flat_map (λ line. line) (map (λ line. line.now) lines.now)) }
 {
     let mut text = Vec::with_capacity(alloc, room)?;
     for line in lines {

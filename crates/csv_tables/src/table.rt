@@ -1,23 +1,24 @@
-ghost use Rattle.std.specs.Prelude.{◌≡◌, IfOk};
+ghost use Rattle.std.specs.Prelude.{◌≡◌, IfOk, true};
+ghost use Rattle.csv.specs.Reading.{error_kind, stops_reader};
 ghost use Rattle.csv.specs.Records.{field_at, fields_of};
 ghost use Rattle.csv_tables.specs.Reading.{cell_or_null};
 ghost use Rattle.plan_model.specs.Tables.{row_of, table_rows};
 
 use crate::cell::read_cell;
-use csv::{ByteRecord, ReaderBuilder};
+use csv::{ByteRecord, Error, ErrorKind, ReaderBuilder};
 use plan_model::{Kind, Kinds};
 use row_core::{Bytes, NoMemory, Row, Rows, Value};
 use std::alloc::{AllocError, Global};
 
-/// The rows of a table's file, each with a value for each column. Any bytes are a table:
-/// docs/FORMATS.md says how they are read.
+/// The rows of a table's file, each with a value for each column. Any bytes are a table, ragged
+/// ones too: no record is refused. docs/FORMATS.md says how they are read.
 pub fn read_table(alloc: Global, bytes: &Bytes, columns: &Kinds) -> Result<Rows, NoMemory>
     ensures { IfOk result (λ rows. rows ≡ table_rows columns.now bytes.now) }
 {
     read_rows(alloc, bytes.as_slice(), columns.as_slice())
 }
 
-// The rows of these bytes. The reader's errors over a slice come for want of memory alone.
+// The rows of these bytes.
 fn read_rows(alloc: Global, text: &[u8], kinds: &[Kind]) -> Result<Rows, NoMemory>
     ensures { IfOk result (λ rows. rows ≡ table_rows kinds.now text.now) }
 {
@@ -31,10 +32,24 @@ fn read_rows(alloc: Global, text: &[u8], kinds: &[Kind]) -> Result<Rows, NoMemor
         match reader.read_byte_record(&mut record) {
             Ok(true) => rows.push(read_row(alloc, &record, kinds)?)?,
             Ok(false) => return Ok(rows),
-            Err(_) => return Err(AllocError),
+            Err(error) => return Err(no_memory(error)),
         }
     }
     Err(AllocError)
+}
+
+// The answer to an error that is no refusal of a record. A slice is read without fail, so what
+// stops its reader is want of memory.
+fn no_memory(error: Error) -> NoMemory
+    requires { stops_reader (error_kind error) ≡ true }
+{
+    match error.into_kind() {
+        ErrorKind::Io(_) | ErrorKind::OutOfMemory => AllocError,
+        ErrorKind::Utf8 { .. }
+        | ErrorKind::UnequalLengths { .. }
+        | ErrorKind::Serialize(_)
+        | ErrorKind::Deserialize { .. } => unreachable!(),
+    }
 }
 
 // A record as a row.
@@ -55,7 +70,8 @@ fn read_field(
     place: usize,
     kind: Kind,
 ) -> Result<Value, NoMemory>
-    ensures { IfOk result (λ value. value ≡ cell_or_null kind (field_at (fields_of cells.now) place)) }
+    ensures { IfOk result
+        (λ value. value ≡ cell_or_null kind (field_at (fields_of cells.now) place)) }
 {
     match cells.get(place) {
         Some(cell) => read_cell(alloc, kind, cell),

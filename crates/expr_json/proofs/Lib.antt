@@ -1,10 +1,10 @@
-pub mod BadPairs
-pub mod DepthLemmas
-pub mod ExprCases
-pub mod ExprLaws
-pub mod ExprSpelling
-pub mod SpellingLaws
-pub mod TestCases
-pub mod TestLaws
-pub mod TestSpelling
-pub mod WordLemmas
+mod BadPairs
+mod DepthLemmas
+mod ExprCases
+mod ExprLaws
+mod ExprSpelling
+pub mod Laws
+mod TestCases
+mod TestLaws
+mod TestSpelling
+mod WordLemmas

@@ -7,7 +7,7 @@ use Rattle.row_core.specs.declared.cmp.Cmp.TheVariants.{Eq, Ne, Lt, Le, Gt, Ge}
 use Rattle.row_core.specs.declared.expr.Expr.{Expr}
 use Rattle.row_core.specs.declared.pred.Pred.{Pred, Test, IsNull, Not}
 use Rattle.expr_json.specs.Ranges.{in_range, test_range_step, test_in_range}
-use Rattle.expr_json.specs.Reading.{cmp_of, connective_of, connected, comparison_of, connection_of, one_part_of, joined, expr_of, test_of, test_from}
+use Rattle.expr_json.specs.Reading.{cmp_of, connective_of, connected, comparison_of, connection_of, test_of_one, test_of_two, expr_of, test_of, test_from}
 use Rattle.expr_json.specs.Spelling.{form, expr_value, cmp_word, test_step, test_value}
 use Rattle.expr_json.specs.declared.connective.Connective.{Connective}
 use Rattle.expr_json.specs.declared.connective.Connective.TheVariants as connective
@@ -46,7 +46,7 @@ range-Not p = fold-Not Bool test_range_step p
 
 -- ---- what is spelled is read
 
-comparison_gives : (cmp : Cmp) (a b : Expr) (p q : Option Pred) → joined (cmp_word cmp) (connective_of (cmp_word cmp)) p q (Some a) (Some b) ≡ Some (Test cmp a b)
+comparison_gives : (cmp : Cmp) (a b : Expr) (p q : Option Pred) → test_of_two (cmp_word cmp) (connective_of (cmp_word cmp)) p q (Some a) (Some b) ≡ Some (Test cmp a b)
 unfolding comparison_of cmp_of connective_of
 comparison_gives Eq a b p q = refl
 comparison_gives Ne a b p q = refl
@@ -55,7 +55,7 @@ comparison_gives Le a b p q = refl
 comparison_gives Gt a b p q = refl
 comparison_gives Ge a b p q = refl
 
-connection_gives : (c : Connective) (p q : Pred) (a b : Option Expr) → joined (connective_word c) (connective_of (connective_word c)) (Some p) (Some q) a b ≡ Some (connected c p q)
+connection_gives : (c : Connective) (p q : Pred) (a b : Option Expr) → test_of_two (connective_word c) (connective_of (connective_word c)) (Some p) (Some q) a b ≡ Some (connected c p q)
 unfolding connection_of connective_of
 connection_gives connective.And p q a b = refl
 connection_gives connective.Or p q a b = refl
@@ -70,8 +70,8 @@ test_at_cmp cmp a b fits =
     let q = test_of (expr_value b) in
     let both = and_parts (in_range a) (in_range b) (sym (range-Test cmp a b) ∙ fits) in
     ap test_of (test_value-Test cmp a b)
-    ∙ ap (λ o. joined word (connective_of word) p q o (expr_of (expr_value b))) (expr_gives a both.0)
-    ∙ ap (λ o. joined word (connective_of word) p q (Some a) o) (expr_gives b both.1)
+    ∙ ap (λ o. test_of_two word (connective_of word) p q o (expr_of (expr_value b))) (expr_gives a both.0)
+    ∙ ap (λ o. test_of_two word (connective_of word) p q (Some a) o) (expr_gives b both.1)
     ∙ comparison_gives cmp a b p q
 
 test_at_null : (a : Expr) → IsRead (IsNull a)
@@ -84,8 +84,8 @@ test_at_connected c p q at_p at_q fits =
     let b = expr_of (test_value q) in
     let both = and_parts (test_in_range p) (test_in_range q) (sym (range-connected c p q) ∙ fits) in
     ap test_of (test_value-connected c p q)
-    ∙ ap (λ o. joined word (connective_of word) o (test_of (test_value q)) a b) (at_p both.0)
-    ∙ ap (λ o. joined word (connective_of word) (Some p) o a b) (at_q both.1)
+    ∙ ap (λ o. test_of_two word (connective_of word) o (test_of (test_value q)) a b) (at_p both.0)
+    ∙ ap (λ o. test_of_two word (connective_of word) (Some p) o a b) (at_q both.1)
     ∙ connection_gives c p q a b
 
 test_at_not : (p : Pred) → IsRead p → IsRead (Not p)
@@ -155,7 +155,7 @@ connection_takes w c x y one two word at_x at_y t is =
     )))
 
 joined_takes : (w : List ℕ) (o : Option Connective) (x y : Data) (p q : Option Pred) (a b : Option Expr) → connective_of w ≡ o → TakenTest x p → TakenTest y q → TakenExpr x a → TakenExpr y b
-    → (t : Pred) → joined w o p q a b ≡ Some t → SpelledTest (form w (x ∷ y ∷ [])) t
+    → (t : Pred) → test_of_two w o p q a b ≡ Some t → SpelledTest (form w (x ∷ y ∷ [])) t
 joined_takes w (Some c) x y p q a b word at_p at_q at_a at_b t is = connection_takes w c x y p q (connective_takes w c word) at_p at_q t is
 joined_takes w None x y p q a b word at_p at_q at_a at_b t is = comparison_takes w x y a b at_a at_b t is
 
@@ -173,7 +173,7 @@ isnull_takes w d o word at_d t is =
     subst (λ (z : Pred). SpelledTest (form w (d ∷ [])) z) same
     (test_value-IsNull a ∙ ap (λ v. form (codes "isnull") (v ∷ [])) s.0 ∙ ap (λ v. form v (d ∷ [])) (sym word), range-IsNull a ∙ s.1))
 
-one_part_takes : (w : List ℕ) (d : Data) (p : Option Pred) (a : Option Expr) → TakenTest d p → TakenExpr d a → (t : Pred) → one_part_of w p a ≡ Some t → SpelledTest (form w (d ∷ [])) t
+one_part_takes : (w : List ℕ) (d : Data) (p : Option Pred) (a : Option Expr) → TakenTest d p → TakenExpr d a → (t : Pred) → test_of_one w p a ≡ Some t → SpelledTest (form w (d ∷ [])) t
 one_part_takes w d p a at_p at_a t is =
     decides (bytes_eq w (codes "not")) _ _ t is (λ b one. not_takes w d p (is_word w (codes "not") b) at_p t one) (λ rest.
     decides (bytes_eq w (codes "isnull")) _ _ t rest (λ b one. isnull_takes w d a (is_word w (codes "isnull") b) at_a t one) (λ none. absurd (cc none)))

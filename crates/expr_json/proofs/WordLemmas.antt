@@ -6,7 +6,7 @@ use Rattle.serde_json.specs.View.{view, items_view}
 use Rattle.serde_json.specs.declared.value.Value.{Value}
 use Rattle.row_core.specs.declared.expr.Expr.{Expr}
 use Rattle.row_core.specs.declared.pred.Pred.{Pred, Not, IsNull}
-use Rattle.expr_json.specs.Reading.{word_of, expr_of, expr_from, one_part_of, test_of, test_from}
+use Rattle.expr_json.specs.Reading.{word_of, expr_of, expr_from, test_of_one, test_of, test_from}
 
 pub expr_by_word : (d : Data) → expr_of d ≡ option_and_then (λ p. expr_from p.0 p.1) (word_of d)
 expr_by_word null = refl
@@ -76,15 +76,15 @@ test_too_long w (p ∷ q ∷ []) h = absurd (omega arith)
 test_too_long w (p ∷ q ∷ r ∷ ps) h = refl
 
 -- the word of a test of one part
-pub is_not : (w : List ℕ) (p : Option Pred) (a : Option Expr) → w ≡ codes "not" → option_map Not p ≡ one_part_of w p a
+pub is_not : (w : List ℕ) (p : Option Pred) (a : Option Expr) → w ≡ codes "not" → option_map Not p ≡ test_of_one w p a
 is_not w p a e = rw e refl
 
-pub is_isnull : (w : List ℕ) (p : Option Pred) (a : Option Expr) → w ≡ codes "isnull" → option_map IsNull a ≡ one_part_of w p a
+pub is_isnull : (w : List ℕ) (p : Option Pred) (a : Option Expr) → w ≡ codes "isnull" → option_map IsNull a ≡ test_of_one w p a
 is_isnull w p a e = rw e refl
 
 differ : (xs ys : List ℕ) (b : Bool) → bytes_eq xs ys ≡ b → (xs ≡ ys → ⊥) → b ≡ false
 differ xs ys true e other = absurd (other ((bytes_eq-Decides xs ys).0 e))
 differ xs ys false e other = refl
 
-pub is_neither : (w : List ℕ) (p : Option Pred) (a : Option Expr) → (w ≡ codes "not" → ⊥) → (w ≡ codes "isnull" → ⊥) → None ≡ one_part_of w p a
+pub is_neither : (w : List ℕ) (p : Option Pred) (a : Option Expr) → (w ≡ codes "not" → ⊥) → (w ≡ codes "isnull" → ⊥) → None ≡ test_of_one w p a
 is_neither w p a other_not other_isnull = rw (differ w (codes "not") _ refl other_not, differ w (codes "isnull") _ refl other_isnull) refl

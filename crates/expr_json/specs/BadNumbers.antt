@@ -14,9 +14,11 @@ is_column n = option_map_or fits_u32 (as_u64 n) false
 abbrev pub is_literal : Num → Bool
 is_literal n = option_map_or fits_i64 (as_integer n) false
 
--- the two items of a list are `"col"` and a number that is no column, or `"int"` and a number that is no constant
+-- the items are `"col"` and a number that is no column, or `"int"` and one that is no constant
 abbrev pub is_bad_pair : Data → Data → Bool
-is_bad_pair (string word) (number n) = (bytes_eq word (codes "col") && not (is_column n)) || (bytes_eq word (codes "int") && not (is_literal n))
+is_bad_pair (string word) (number n) =
+    (bytes_eq word (codes "col") && not (is_column n))
+    || (bytes_eq word (codes "int") && not (is_literal n))
 is_bad_pair _ _ = false
 
 -- whether the items are two and such a pair

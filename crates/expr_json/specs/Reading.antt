@@ -50,7 +50,9 @@ cmp_of word =
 
 -- what this word joins tests by
 unfoldable pub connective_of : List ℕ → Option Connective
-connective_of word = if bytes_eq word (codes "and") then Some connective.And else when (bytes_eq word (codes "or")) connective.Or
+connective_of word =
+    if bytes_eq word (codes "and") then Some connective.And else
+    when (bytes_eq word (codes "or")) connective.Or
 
 -- an operation on two expressions
 abbrev pub applied : Operator → Expr → Expr → Expr
@@ -77,11 +79,18 @@ literal_of (unsigned n) = when (nat_lt n (2 ^ 63)) (pos n)
 literal_of (negative (negsuc n)) = when (nat_lt n (2 ^ 63)) (negsuc n)
 literal_of _ = None
 
+-- the column and the constant of a value, if it is a number
+abbrev pub column_in : Data → Option ℕ
+column_in d = as_number d >>= column_of
+
+abbrev pub integer_in : Data → Option ℤ
+integer_in d = as_number d >>= literal_of
+
 -- what one item behind one of the words `col`, `int` and `text` is
 unfoldable pub leaf_of : List ℕ → Data → Option Expr
 leaf_of word d =
-    if bytes_eq word (codes "col") then option_map Col (as_number d >>= column_of) else
-    if bytes_eq word (codes "int") then option_map (λ n. Const (Int n)) (as_number d >>= literal_of) else
+    if bytes_eq word (codes "col") then option_map Col (column_in d) else
+    if bytes_eq word (codes "int") then option_map (λ n. Const (Int n)) (integer_in d) else
     if bytes_eq word (codes "text") then option_map (λ s. Const (Text s)) (as_str d) else None
 
 -- an operation on what two parts are
@@ -127,13 +136,16 @@ connection_of connective first second = do
   Some (connected connective p q)
 
 -- a test of one part, which may be a test or an expression
-abbrev pub one_part_of : List ℕ → Option Pred → Option Expr → Option Pred
-one_part_of word p a = if bytes_eq word (codes "not") then option_map Not p else if bytes_eq word (codes "isnull") then option_map IsNull a else None
+abbrev pub test_of_one : List ℕ → Option Pred → Option Expr → Option Pred
+test_of_one word p a =
+    if bytes_eq word (codes "not") then option_map Not p else
+    if bytes_eq word (codes "isnull") then option_map IsNull a else None
 
--- a test of two parts, joined by `and` or `or`, or else compared
-abbrev pub joined : List ℕ → Option Connective → Option Pred → Option Pred → Option Expr → Option Expr → Option Pred
-joined word (Some connective) p q a b = connection_of connective p q
-joined word None p q a b = comparison_of word a b
+-- a test of two parts: both hold, one holds, or a comparison
+abbrev pub test_of_two : List ℕ → Option Connective → Option Pred → Option Pred → Option Expr
+    → Option Expr → Option Pred
+test_of_two word (Some connective) p q a b = connection_of connective p q
+test_of_two word None p q a b = comparison_of word a b
 
 -- the test that a value spells
 abbrev mutual
@@ -143,6 +155,7 @@ abbrev mutual
 
   -- the test of this word and these parts
   pub test_from : List ℕ → Items → Option Pred
-  test_from word (item d no_items) = one_part_of word (test_of d) (expr_of d)
-  test_from word (item a (item b no_items)) = joined word (connective_of word) (test_of a) (test_of b) (expr_of a) (expr_of b)
+  test_from word (item d no_items) = test_of_one word (test_of d) (expr_of d)
+  test_from word (item a (item b no_items)) =
+      test_of_two word (connective_of word) (test_of a) (test_of b) (expr_of a) (expr_of b)
   test_from word _ = None

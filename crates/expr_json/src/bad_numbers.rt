@@ -4,9 +4,9 @@ ghost use Rattle.expr_json.specs.BadNumbers.{is_column, is_literal, is_bad_pair,
 
 use serde_json::{Number, Value};
 
-/// Whether somewhere in the value's lists there stands `["col",n]` with a number that is no integer of 32 bits, or
-/// `["int",n]` with one that is no integer of 64 bits with a sign. Objects are not looked into. `-0`, `1.0` and
-/// `1e2` are no integers.
+/// Whether somewhere in the value's lists there stands `["col",n]` with a number that is no integer
+/// of 32 bits, or `["int",n]` with one that is no integer of 64 bits with a sign. Objects are not
+/// looked into. `-0`, `1.0` and `1e2` are no integers.
 #[cycle(bad_numbers)]
 pub fn has_bad_number(value: &Value) -> bool
     ensures { result ≡ bad_number_in (view value.now) }

@@ -15,7 +15,8 @@ use std::alloc::Global;
 /// The expression that the value spells, if it spells one.
 pub fn read_expr(alloc: Global, value: &Value) -> Result<Option<Expr>, NoMemory>
     ensures is { IfOk result (λ found. found ≡ expr_of (view value.now)) }
-    ensures spelled { IfOk result (λ found. IfSome found (λ expr. SpellsExpr (view value.now) expr)) }
+    ensures spelled { IfOk result
+        (λ found. IfSome found (λ expr. SpellsExpr (view value.now) expr)) }
     ensures only { IfOk result (λ found. IfSome found (λ expr.
         (other : Expr) → SpellsExpr (view value.now) other → other ≡ expr)) }
     ensures none { IfOk result (λ found. IfNone found (

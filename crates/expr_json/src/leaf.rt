@@ -1,12 +1,12 @@
 //! Columns and constants.
-ghost use Rattle.std.specs.Prelude.{◌≡◌, IfOk, IfSome, IsTrue, option_map, IsUtf8};
-ghost use Rattle.serde_json.specs.Data.{string};
+ghost use Rattle.std.specs.Prelude.{◌≡◌, IfOk, IfSome, IsTrue, option_map};
 ghost use Rattle.serde_json.specs.View.{view, number_view};
 ghost use Rattle.expr_json.specs.Ranges.{literal_is_utf8, has_utf8_texts};
 ghost use Rattle.expr_json.specs.Reading.{leaf_of, column_of, literal_of};
 ghost use Rattle.expr_json.specs.Spelling.{literal_value};
 
 use crate::form::{form_of_none, form_of_one};
+use crate::text::write_text;
 use row_core::{Bytes, Expr, NoMemory, Value as Literal};
 use serde_json::{Number, Value};
 use std::alloc::Global;
@@ -57,16 +57,6 @@ pub fn write_literal(alloc: Global, literal: &Literal) -> Result<Value, NoMemory
     match literal {
         Literal::Null => form_of_none(alloc, "null"),
         Literal::Int(n) => form_of_one(alloc, "int", Value::from(*n)),
-        Literal::Text(text) => form_of_one(alloc, "text", write_text(alloc, text)?),
-    }
-}
-
-fn write_text(alloc: Global, text: &Bytes) -> Result<Value, NoMemory>
-    requires { IsUtf8 text.now }
-    ensures { IfOk result (λ value. view value ≡ string text.now) }
-{
-    match str::from_utf8(text.as_slice()) {
-        Ok(text) => Value::try_from_str(alloc, text),
-        Err(_) => unreachable!(),
+        Literal::Text(text) => form_of_one(alloc, "text", write_text(alloc, text.as_slice())?),
     }
 }

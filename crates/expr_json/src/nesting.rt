@@ -5,8 +5,8 @@ ghost use Rattle.expr_json.specs.Depths.{list_depth, greatest_depth};
 
 use serde_json::Value;
 
-/// The greatest number of the value's lists that stand one within another, 0 for a value that is no list. Objects
-/// are not looked into. A depth past u64's greatest number counts as that number.
+/// The greatest number of the value's lists that stand one within another, 0 for a value that is no
+/// list. Objects are not looked into. A depth past u64's greatest number counts as that number.
 #[cycle(depths)]
 pub fn list_depth(value: &Value) -> u64
     ensures depth { result ≡ min (list_depth (view value.now)) (2 ^ 64 - 1) }

@@ -17,7 +17,8 @@ use std::alloc::Global;
 /// The test that the value spells, if it spells one.
 pub fn read_test(alloc: Global, value: &Value) -> Result<Option<Pred>, NoMemory>
     ensures is { IfOk result (λ found. found ≡ test_of (view value.now)) }
-    ensures spelled { IfOk result (λ found. IfSome found (λ test. SpellsTest (view value.now) test)) }
+    ensures spelled { IfOk result
+        (λ found. IfSome found (λ test. SpellsTest (view value.now) test)) }
     ensures only { IfOk result (λ found. IfSome found (λ test.
         (other : Pred) → SpellsTest (view value.now) other → other ≡ test)) }
     ensures none { IfOk result (λ found. IfNone found (
@@ -28,7 +29,8 @@ pub fn read_test(alloc: Global, value: &Value) -> Result<Option<Pred>, NoMemory>
 
 fn find_test(alloc: Global, value: &Value) -> Result<Option<Pred>, NoMemory>
     ensures is { IfOk result (λ found. found ≡ test_of (view value.now)) }
-    ensures texts { IfOk result (λ found. IfSome found (λ test. IsTrue (test_has_utf8_texts test))) }
+    ensures texts { IfOk result
+        (λ found. IfSome found (λ test. IsTrue (test_has_utf8_texts test))) }
 {
     let Some((word, parts)) = word_and_parts(value) else {
         return Ok(None);
@@ -61,7 +63,8 @@ fn find_test(alloc: Global, value: &Value) -> Result<Option<Pred>, NoMemory>
 fn negated(alloc: Global, p: Option<Pred>) -> Result<Option<Pred>, NoMemory>
     requires { IfSome p (λ test. IsTrue (test_has_utf8_texts test)) }
     ensures is { IfOk result (λ found. found ≡ option_map Not p) }
-    ensures texts { IfOk result (λ found. IfSome found (λ test. IsTrue (test_has_utf8_texts test))) }
+    ensures texts { IfOk result
+        (λ found. IfSome found (λ test. IsTrue (test_has_utf8_texts test))) }
 {
     match p {
         Some(p) => Ok(Some(Pred::Not(Boxed::new(alloc, p)?))),
@@ -90,7 +93,8 @@ fn connected(
     requires p { IfSome p (λ test. IsTrue (test_has_utf8_texts test)) }
     requires q { IfSome q (λ test. IsTrue (test_has_utf8_texts test)) }
     ensures is { IfOk result (λ found. found ≡ connection_of connective p q) }
-    ensures texts { IfOk result (λ found. IfSome found (λ test. IsTrue (test_has_utf8_texts test))) }
+    ensures texts { IfOk result
+        (λ found. IfSome found (λ test. IsTrue (test_has_utf8_texts test))) }
 {
     let Some(p) = p else {
         return Ok(None);
@@ -105,7 +109,8 @@ fn connected(
 fn compared(alloc: Global, word: &str, a: &Value, b: &Value) -> Result<Option<Pred>, NoMemory>
     ensures is { IfOk result (λ found. found
         ≡ comparison_of word.now (expr_of (view a.now)) (expr_of (view b.now))) }
-    ensures texts { IfOk result (λ found. IfSome found (λ test. IsTrue (test_has_utf8_texts test))) }
+    ensures texts { IfOk result
+        (λ found. IfSome found (λ test. IsTrue (test_has_utf8_texts test))) }
 {
     let Some(cmp) = comparison_named(word) else {
         return Ok(None);

@@ -16,7 +16,7 @@ use Rattle.plan_model.specs.declared.setting_values.SettingValues.{SettingValues
 use Rattle.expr_json.specs.Depths.{expr_depth, test_depth}
 use Rattle.expr_json.specs.Ranges.{in_range, test_in_range}
 use Rattle.expr_json.specs.Spelling.{expr_value, test_value}
-use Rattle.expr_json.proofs.SpellingLaws.{nests-expr, nests-test, plain-expr, plain-test}
+use Rattle.expr_json.proofs.Laws.{nests-expr, nests-test, plain-expr, plain-test}
 use Rattle.job_json.specs.Spelling.{number_value, column_value, pair_value, agg_value, op_members, with_ship, node_value, settings_value, job_value}
 use Rattle.job_json.specs.WellFormed.{is_shallow_expr, is_shallow_test, IsOpForm, IsNodeForm, IsJobForm}
 use Rattle.job_json.specs.declared.job.Job.{Job}

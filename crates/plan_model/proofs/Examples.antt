@@ -14,7 +14,7 @@ use Rattle.plan_model.specs.Tables.{table_rows}
 use Rattle.plan_model.specs.Operators.{sum_value, aggregated, exploded, filtered}
 use Rattle.plan_model.specs.Plans.{committed_text}
 use Rattle.row_core.specs.Exprs.{compared, is_yes, truth_of}
-use Rattle.row_core.proofs.Equations.{truth_of-Test, value_at-Col, value_at-Const}
+use Rattle.row_core.proofs.Laws.{truth_of-Test, value_at-Col, value_at-Const}
 use Rattle.plan_model.specs.declared.agg.Agg.TheVariants.{Count, Sum, Min, Max}
 use Rattle.plan_model.specs.declared.node.Node.{Node}
 use Rattle.plan_model.specs.declared.op.Op.TheVariants.{Source, Filter, Sink}

@@ -8,6 +8,7 @@ use Rattle.std.proofs.lemmas.List.{append-nil, length-append, nil_from_length}
 use Rattle.row_core.specs.declared.value.Value.{Value}
 use Rattle.row_core.specs.declared.value.Value.TheVariants.{Null, Int, Text}
 use Rattle.row_core.specs.Encoding.{value_bytes, values_bytes, row_bytes, rows_bytes, ValueFits, RowFits, RowsFit}
+use Rattle.row_core.specs.Values.{text_limit}
 use Rattle.row_core.proofs.Numbers.{wide16, wide32, wide64, split_front, number_front}
 
 -- where two spellings begin the same bytes, they are one, of one item
@@ -22,7 +23,7 @@ int_front m n x y fits_m fits_n h =
     let parts = number_front w64 (2 ^ 64) wide64 (cast_unsigned w64 m) (cast_unsigned w64 n) x y (bits_below m fits_m) (bits_below n fits_n) h in
     (sym (to_z-of_z w64 m fits_m) ∙ ap (cast_signed w64) parts.0 ∙ to_z-of_z w64 n fits_n, parts.1)
 
-text_front : (s t x y : List ℕ) → length s ≤ 16777216 → length t ≤ 16777216 → to_be_bytes w32 (length s) ++ (s ++ x) ≡ to_be_bytes w32 (length t) ++ (t ++ y) → (s ≡ t) × (x ≡ y)
+text_front : (s t x y : List ℕ) → length s ≤ text_limit → length t ≤ text_limit → to_be_bytes w32 (length s) ++ (s ++ x) ≡ to_be_bytes w32 (length t) ++ (t ++ y) → (s ≡ t) × (x ≡ y)
 text_front s t x y fits_s fits_t h =
     let parts = number_front w32 (2 ^ 32) wide32 (length s) (length t) (s ++ x) (t ++ y) (omega arith) (omega arith) h in
     split_front s t x y parts.0 parts.1

@@ -7,7 +7,8 @@ use Rattle.row_core.specs.declared.row_error.RowError.TheVariants.{Bad, NoMemory
 use Rattle.row_core.specs.Encoding.{ValueFits, StopsAt}
 
 -- the bytes begin with the spelling of an item that fits, and this is what follows
-pub record Begins {A : Type 0} (spell : A → List ℕ) (Fits : A → Type 0) (bytes : List ℕ) (item : A) (rest : List ℕ) : Type 0 where
+pub record Begins {A : Type 0} (spell : A → List ℕ) (Fits : A → Type 0) (bytes : List ℕ) (item : A)
+    (rest : List ℕ) : Type 0 where
   pub fits : Fits item
   pub front : bytes ≡ spell item ++ rest
 

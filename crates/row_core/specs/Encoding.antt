@@ -2,6 +2,7 @@
 use Rattle.std.specs.Prelude.{◌≡◌, ℕ, ◌<◌, ◌≤◌, List, [], ◌∷◌, ◌++◌, length, take, drop, FitsSigned}
 use Rattle.std.specs.List.{flat_map, AllByRecursion}
 use Rattle.std.specs.Int.{w16, w32, w64, to_be_bytes, cast_unsigned}
+use Rattle.row_core.specs.Values.{text_limit}
 use Rattle.row_core.specs.declared.value.Value.{Value}
 use Rattle.row_core.specs.declared.value.Value.TheVariants.{Null, Int, Text}
 
@@ -23,17 +24,17 @@ row_bytes row = to_be_bytes w16 (length row) ++ values_bytes row
 abbrev pub rows_bytes : List (List Value) → List ℕ
 rows_bytes rows = flat_map row_bytes rows
 
--- a text has at most 16,777,216 bytes
+-- a text within the limit
 abbrev pub TextFits : Value → Type 0
 TextFits Null = Unit {0}
 TextFits (Int n) = Unit {0}
-TextFits (Text t) = length t ≤ 16777216
+TextFits (Text t) = length t ≤ text_limit
 
 -- such a text, or a number of 64 bits
 abbrev pub ValueFits : Value → Type 0
 ValueFits Null = Unit {0}
 ValueFits (Int n) = FitsSigned w64 n
-ValueFits (Text t) = length t ≤ 16777216
+ValueFits (Text t) = length t ≤ text_limit
 
 -- at most 256 values, each of which fits
 pub record RowFits (row : List Value) : Type 0 where
@@ -50,4 +51,5 @@ pub record StopsAt (bytes : List ℕ) (at : ℕ) : Type 0 where
   pub fit : RowsFit rows
   pub before : take at bytes ≡ rows_bytes rows
   pub more : at < length bytes
-  pub none : (row : List Value) (rest : List ℕ) → RowFits row → drop at bytes ≡ row_bytes row ++ rest → ⊥
+  pub none : (row : List Value) (rest : List ℕ) → RowFits row
+      → drop at bytes ≡ row_bytes row ++ rest → ⊥

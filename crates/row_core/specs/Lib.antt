@@ -1,7 +1,7 @@
 pub mod Bags
+pub mod CowValues
 pub mod Decoding
 pub mod Encoding
 pub mod Exprs
 pub mod Hashing
-pub mod Operands
 pub mod Values

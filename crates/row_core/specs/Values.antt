@@ -35,9 +35,13 @@ abbrev pub int_value : ℤ → Value
 int_value (pos n) = if nat_lt n (2 ^ 63) then Int (pos n) else Null
 int_value (negsuc n) = if nat_lt n (2 ^ 63) then Int (negsuc n) else Null
 
+-- the greatest length of a text, in bytes
+abbrev pub text_limit : ℕ
+text_limit = 16777216
+
 -- the text, or Null where it is too long
 abbrev pub text_value : List ℕ → Value
-text_value text = if nat_le (length text) 16777216 then Text text else Null
+text_value text = if nat_le (length text) text_limit then Text text else Null
 
 -- the text that a value shows, if it is not Null
 abbrev pub text_of : Value → Option (List ℕ)

@@ -11,14 +11,16 @@ use std::alloc::Global;
 /// The greatest number of values of a row that has an encoding.
 const WIDTH_LIMIT: u16 = 256;
 
-/// The rows that the bytes spell, one after another, all of the bytes. docs/FORMATS.md has the format.
+/// The rows that the bytes spell, all of the bytes. docs/FORMATS.md has the format.
 pub fn decode_rows(alloc: Global, bytes: &Bytes) -> Result<Rows, RowError>
     // What is read is spelled so.
     ensures found { IfOk result (λ rows. RowsFit rows × (bytes.now ≡ rows_bytes rows)) }
     // What is spelled so is read, unless memory runs out.
-    ensures only { (rows : List (List OneValue)) → RowsFit rows → bytes.now ≡ rows_bytes rows → GivesRows result rows }
-    ensures alone { (row : List OneValue) → RowFits row → bytes.now ≡ row_bytes row → GivesRows result (row ∷ []) }
-    // A refusal is at the first row that isn't one, and where there is such a row, there is a refusal.
+    ensures only { (rows : List (List OneValue)) → RowsFit rows → bytes.now ≡ rows_bytes rows
+        → GivesRows result rows }
+    ensures alone { (row : List OneValue) → RowFits row → bytes.now ≡ row_bytes row
+        → GivesRows result (row ∷ []) }
+    // A refusal is at the first row that isn't one, and such a row is refused.
     ensures cause { IfErr result (λ error. IsCause bytes.now error) }
     ensures stops { (at : ℕ) → StopsAt bytes.now at → GivesBad result at }
 {
@@ -27,7 +29,8 @@ pub fn decode_rows(alloc: Global, bytes: &Bytes) -> Result<Rows, RowError>
 
 /// Bytes spell one list of rows at most, and no row's spelling begins another's.
 pub fn one_spelling()
-    ensures rows { (a b : List (List OneValue)) → RowsFit a → RowsFit b → rows_bytes a ≡ rows_bytes b → a ≡ b }
+    ensures rows { (a b : List (List OneValue)) → RowsFit a → RowsFit b
+        → rows_bytes a ≡ rows_bytes b → a ≡ b }
     ensures row { (a b : List OneValue) (x y : List ℕ) → RowFits a → RowFits b
         → row_bytes a ++ x ≡ row_bytes b ++ y → (a ≡ b) × (x ≡ y) }
 {}
@@ -66,7 +69,8 @@ fn read_row(alloc: Global, bytes: &[u8]) -> Result<Option<(Row, &[u8])>, NoMemor
 
 // This many values that the bytes begin with.
 fn read_values(alloc: Global, count: u16, bytes: &[u8]) -> Result<Option<(Row, &[u8])>, NoMemory>
-    ensures { IfOk result (λ read. MatchOption read (NoneBegins values_bytes (AreValues count) bytes.now)
+    ensures { IfOk result
+        (λ read. MatchOption read (NoneBegins values_bytes (AreValues count) bytes.now)
         (λ x. Begins values_bytes (AreValues count) bytes.now x.0 x.1.now)) }
 {
     // A value has a byte at least, so no more room is taken than the bytes can fill.
@@ -105,7 +109,8 @@ fn read_int(bytes: &[u8]) -> Option<(Value, &[u8])>
 
 // The text behind its tag. No memory is taken before all of its bytes are seen.
 fn read_text(alloc: Global, bytes: &[u8]) -> Result<Option<(Value, &[u8])>, NoMemory>
-    ensures { IfOk result (λ read. MatchOption read (NoneBegins value_bytes ValueFits (2 ∷ bytes.now))
+    ensures { IfOk result
+        (λ read. MatchOption read (NoneBegins value_bytes ValueFits (2 ∷ bytes.now))
         (λ x. Begins value_bytes ValueFits (2 ∷ bytes.now) x.0 x.1.now)) }
 {
     let Some((len, rest)) = read_u32(bytes) else {
@@ -123,36 +128,22 @@ fn read_u16(bytes: &[u8]) -> Option<(u16, &[u8])>
     ensures { MatchOption result (NoneBegins (to_be_bytes w16) (λ n. n < 2 ^ 16) bytes.now)
         (λ x. Begins (to_be_bytes w16) (λ n. n < 2 ^ 16) bytes.now x.0 x.1.now) }
 {
-    if bytes.len() < 2 {
-        return None;
-    }
-    let (front, rest) = bytes.split_at(2);
-    let number = u16::from_be_bytes([front[0], front[1]]);
-    Some((number, rest))
+    let (number, rest) = bytes.split_first_chunk::<2>()?;
+    Some((u16::from_be_bytes(*number), rest))
 }
 
 fn read_u32(bytes: &[u8]) -> Option<(u32, &[u8])>
     ensures { MatchOption result (NoneBegins (to_be_bytes w32) (λ n. n < 2 ^ 32) bytes.now)
         (λ x. Begins (to_be_bytes w32) (λ n. n < 2 ^ 32) bytes.now x.0 x.1.now) }
 {
-    if bytes.len() < 4 {
-        return None;
-    }
-    let (front, rest) = bytes.split_at(4);
-    let number = u32::from_be_bytes([front[0], front[1], front[2], front[3]]);
-    Some((number, rest))
+    let (number, rest) = bytes.split_first_chunk::<4>()?;
+    Some((u32::from_be_bytes(*number), rest))
 }
 
 fn read_u64(bytes: &[u8]) -> Option<(u64, &[u8])>
     ensures { MatchOption result (NoneBegins (to_be_bytes w64) (λ n. n < 2 ^ 64) bytes.now)
         (λ x. Begins (to_be_bytes w64) (λ n. n < 2 ^ 64) bytes.now x.0 x.1.now) }
 {
-    if bytes.len() < 8 {
-        return None;
-    }
-    let (front, rest) = bytes.split_at(8);
-    let number = u64::from_be_bytes([
-        front[0], front[1], front[2], front[3], front[4], front[5], front[6], front[7],
-    ]);
-    Some((number, rest))
+    let (number, rest) = bytes.split_first_chunk::<8>()?;
+    Some((u64::from_be_bytes(*number), rest))
 }

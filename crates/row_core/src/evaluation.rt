@@ -1,9 +1,9 @@
 ghost use Rattle.std.specs.Prelude.{◌≡◌, ◌+ℤ◌, ◌-ℤ◌, ◌*ℤ◌, length, IfOk, IsTrue};
 ghost use Rattle.row_core.specs.Values.{text_of, concatenated};
 ghost use Rattle.row_core.specs.Exprs.{on_ints, checked_value, value_at, columns_within};
-ghost use Rattle.row_core.specs.Operands.{operand_value};
+ghost use Rattle.row_core.specs.CowValues.{value_in};
 
-use crate::operand::Operand;
+use crate::cow_value::CowValue;
 use crate::value::TEXT_LIMIT;
 use crate::{Bytes, Expr, NoMemory, Row, Value};
 use std::alloc::Global;
@@ -17,32 +17,32 @@ pub fn eval(alloc: Global, expr: &Expr, row: &Row) -> Result<Value, NoMemory>
 }
 
 /// What `eval` gives, with no copy of a column or a literal.
-pub fn evaluate<'a>(alloc: Global, expr: &'a Expr, row: &'a Row) -> Result<Operand<'a>, NoMemory>
+pub fn evaluate<'a>(alloc: Global, expr: &'a Expr, row: &'a Row) -> Result<CowValue<'a>, NoMemory>
     requires { IsTrue (columns_within (length row.now) expr.now) }
-    ensures { IfOk result (λ operand. operand_value operand ≡ value_at row.now expr.now) }
+    ensures { IfOk result (λ value. value_in value ≡ value_at row.now expr.now) }
 {
     match expr {
-        Expr::Col(column) => Ok(Operand::Borrowed(&row.as_slice()[*column as usize])),
-        Expr::Const(value) => Ok(Operand::Borrowed(value)),
+        Expr::Col(column) => Ok(CowValue::Borrowed(&row.as_slice()[*column as usize])),
+        Expr::Const(value) => Ok(CowValue::Borrowed(value)),
         Expr::Add(a, b) => {
             let a = evaluate(alloc, a.get(), row)?;
             let b = evaluate(alloc, b.get(), row)?;
-            Ok(Operand::Made(sum(a.value(), b.value())))
+            Ok(CowValue::Owned(sum(a.value(), b.value())))
         }
         Expr::Sub(a, b) => {
             let a = evaluate(alloc, a.get(), row)?;
             let b = evaluate(alloc, b.get(), row)?;
-            Ok(Operand::Made(difference(a.value(), b.value())))
+            Ok(CowValue::Owned(difference(a.value(), b.value())))
         }
         Expr::Mul(a, b) => {
             let a = evaluate(alloc, a.get(), row)?;
             let b = evaluate(alloc, b.get(), row)?;
-            Ok(Operand::Made(product(a.value(), b.value())))
+            Ok(CowValue::Owned(product(a.value(), b.value())))
         }
         Expr::Concat(a, b) => {
             let a = evaluate(alloc, a.get(), row)?.into_value(alloc)?;
             let b = evaluate(alloc, b.get(), row)?.into_value(alloc)?;
-            Ok(Operand::Made(concatenation(alloc, a, b)?))
+            Ok(CowValue::Owned(concatenation(alloc, a, b)?))
         }
     }
 }

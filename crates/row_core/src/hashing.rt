@@ -10,7 +10,7 @@ const HASH_START: u64 = 14_695_981_039_346_656_037;
 
 const HASH_PRIME: u64 = 1_099_511_628_211;
 
-/// The hash of the row's values in these columns, in the order of the columns. docs/FORMATS.md has the rule.
+/// The hash of the row's values in these columns, in their order. docs/FORMATS.md has the rule.
 pub fn key_hash(row: &Row, cols: &Columns) -> u64
     requires columns { All (λ column. column < length row.now) cols.now }
     requires texts { AllByRecursion TextFits (key_of cols.now row.now) }

@@ -94,15 +94,13 @@ pub fn cmp_rows(a: &Row, b: &Row) -> Ordering
 fn cmp_values(a: &[Value], b: &[Value]) -> Ordering
     ensures { result ≡ row_cmp a.now b.now }
 {
-    match (a.split_first(), b.split_first()) {
-        (None, None) => Ordering::Equal,
-        (None, Some(_)) => Ordering::Less,
-        (Some(_), None) => Ordering::Greater,
-        (Some((x, xs)), Some((y, ys))) => match x.cmp(y) {
-            Ordering::Equal => cmp_values(xs, ys),
-            unequal => unequal,
-        },
+    for (x, y) in a.iter().zip(b) {
+        let order = x.cmp(y);
+        if order.is_ne() {
+            return order;
+        }
     }
+    a.len().cmp(&b.len())
 }
 
 fn copy_values(alloc: Global, values: &[Value]) -> Result<Row, NoMemory>

@@ -47,7 +47,7 @@ fn evaluates(rt: HostRuntime) -> Result<(), Fail> {
 }
 
 #[test]
-fn judges(rt: HostRuntime) -> Result<(), Fail> {
+fn tests_a_row(rt: HostRuntime) -> Result<(), Fail> {
     assert!(rt; holds(rt.alloc(), &is_joined(rt.alloc())?, &sample(rt.alloc())?)?);
     Ok(())
 }
@@ -60,55 +60,12 @@ fn encodes_a_row(rt: HostRuntime) -> Result<(), Fail> {
 }
 
 #[test]
-fn decodes_a_row(rt: HostRuntime) -> Result<(), Fail> {
-    let bytes = Bytes::from_slice(rt.alloc(), SAMPLE)?;
-    let rows = decode_rows(rt.alloc(), &bytes)?;
-    let row = sample(rt.alloc())?;
-    assert_eq!(rt; rows.len(), 1);
-    for read in rows.as_slice() {
-        assert!(rt; cmp_rows(read, &row).is_eq());
-    }
-    Ok(())
-}
-
-#[test]
 fn hashes_a_key(rt: HostRuntime) -> Result<(), Fail> {
     let mut columns = Vec::new(rt.alloc());
     columns.push(1)?;
     let hash = key_hash(&sample(rt.alloc())?, &Columns::from_vec(columns));
     assert_eq!(rt; hash, 0xaf63_bd4c_8601_b7df);
     assert_eq!(rt; hash % 16, 15);
-    Ok(())
-}
-
-// Bytes that are no rows, and where the first begins that is none.
-const REFUSED: &[(&[u8], u64)] = &[
-    (
-        &[
-            0, 3, 1, 0, 0, 0, 0, 0, 0, 0, 7, 0, 2, 0, 0, 0, 2, 97, 98, 0, 1,
-        ],
-        19,
-    ),
-    (&[0], 0),
-    (&[0, 0, 0, 1, 0, 1], 5),
-    (&[1, 1], 0),
-    (&[0, 1, 3], 0),
-    (&[0, 1, 1, 0, 0, 0, 0, 0, 0, 7], 0),
-    // A text of 16 MiB, one of more, and one of all that four bytes say, with three bytes there.
-    (&[0, 1, 2, 1, 0, 0, 0, 97, 98, 99], 0),
-    (&[0, 1, 2, 1, 0, 0, 1, 97, 98, 99], 0),
-    (&[0, 1, 2, 255, 255, 255, 255, 97, 98, 99], 0),
-];
-
-#[test]
-fn refuses_bytes(rt: HostRuntime) -> Result<(), Fail> {
-    for (bytes, at) in REFUSED {
-        let bytes = Bytes::from_slice(rt.alloc(), bytes)?;
-        let refusal = decode_rows(rt.alloc(), &bytes)
-            .err()
-            .ok_or("these are no rows")?;
-        assert_eq!(rt; refusal, RowError::Bad { at: *at });
-    }
     Ok(())
 }
 

@@ -21,7 +21,9 @@ is_taken pool id = get_or (worker_of pool id.worker).taken id.slot false
 
 -- the worker's lowest free slot
 abbrev pub lowest_free : List WorkerSlots → ℕ → Option SlotId
-lowest_free pool worker = option_map (λ slot. record { worker = worker; slot = slot }) (position not (worker_of pool worker).taken)
+lowest_free pool worker =
+    option_map (λ slot. record { worker = worker; slot = slot })
+        (position not (worker_of pool worker).taken)
 
 -- the pool with this slot taken, or free
 abbrev pub with_slot : List WorkerSlots → SlotId → Bool → List WorkerSlots
@@ -37,7 +39,7 @@ free_slots pool = sum_by (λ worker. count_by not worker.taken) pool
 abbrev pub slots_of : List WorkerSlots → ℕ
 slots_of pool = sum_by (λ worker. length worker.taken) pool
 
--- the slot is now taken or free, and every other slot, every block and the number of workers is as it was
+-- this slot is now taken or free; all other slots, the blocks and the number of workers are kept
 pub record ChangesOnly (old new : List WorkerSlots) (id : SlotId) (taken : Bool) : Type 0 where
   pub changed : is_taken new id ≡ taken
   pub others : (other : SlotId) → other ≢ id → is_taken new other ≡ is_taken old other

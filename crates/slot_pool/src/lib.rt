@@ -1,5 +1,5 @@
-//! The workers' slots: which are taken, and until when a worker is blocked. A subtask is deployed into a
-//! free slot of a worker that is not blocked.
+//! The workers' slots: which are taken, and until when a worker is blocked. A subtask is deployed
+//! into a free slot of a worker that is not blocked.
 #![tactic(auto)]
 
 mod no_memory;

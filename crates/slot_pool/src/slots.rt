@@ -5,8 +5,8 @@ use crate::{NoMemory, SlotId};
 use std::alloc::Global;
 use std::marker::Model;
 
-/// The slots of all workers. Contracts see a list, by the workers' numbers: which slots of the worker
-/// are taken, and the end of its block.
+/// The slots of all workers. Contracts see a list, by the workers' numbers: which slots of the
+/// worker are taken, and the end of its block.
 #[derive(Debug, Drop)]
 pub struct Slots {
     workers: Vec<Worker>,
@@ -21,7 +21,8 @@ impl Model for Slots {
 
     ghost view = { λ s. s.workers.items };
 
-    ghost invariant = { λ s. (s.free ≡ free_slots s.workers.items) × (slots_of s.workers.items < 2 ^ 32) };
+    ghost invariant =
+        { λ s. (s.free ≡ free_slots s.workers.items) × (slots_of s.workers.items < 2 ^ 32) };
 }
 
 impl Slots {
@@ -50,7 +51,8 @@ impl Slots {
         ensures none { IsNone result ↔ ((now < (worker_of self.old worker).block_end)
             ⊎ All IsTrue (worker_of self.old worker).taken) }
         ensures lowest { IfSome result (λ id. lowest_free self.old worker ≡ Some id) }
-        ensures free { IfSome result (λ id. (id.worker ≡ worker) × ¬ (IsTrue (is_taken self.old id))) }
+        ensures free { IfSome result
+            (λ id. (id.worker ≡ worker) × ¬ (IsTrue (is_taken self.old id))) }
         ensures taken { IfSome result (λ id. self.new ≡ with_slot self.old id true) }
         ensures others { IfSome result (λ id. ChangesOnly self.old self.new id true) }
         ensures same { IfNone result (self.new ≡ self.old) }
@@ -75,7 +77,8 @@ impl Slots {
     pub fn block(&mut self, worker: u32, until: u64)
         requires { worker < length self.old }
         ensures blocked { let old = worker_of self.old worker in
-            self.new ≡ slice_set self.old worker (record old { block_end = max old.block_end until }) }
+            self.new ≡ slice_set self.old worker
+                (record old { block_end = max old.block_end until }) }
         ensures others { (id : SlotId) → is_taken self.new id ≡ is_taken self.old id }
     {
         self.workers[worker as usize].block(until);

@@ -38,7 +38,8 @@ impl Worker {
     pub fn lowest_free(&self, now: u64) -> Option<u32>
         ensures none { IsNone result ↔ ((now < self.now.block_end) ⊎ All IsTrue self.now.taken) }
         ensures lowest { IfSome result (λ slot. position not self.now.taken ≡ Some slot) }
-        ensures free { IfSome result (λ slot. (slot < length self.now.taken) × (get_or self.now.taken slot false ≡ false)) }
+        ensures free { IfSome result
+            (λ slot. (slot < length self.now.taken) × (get_or self.now.taken slot false ≡ false)) }
     {
         if now < self.block_end {
             return None;
@@ -66,7 +67,8 @@ impl Worker {
 fn first_free(taken: &[bool]) -> Option<usize>
     ensures lowest { result ≡ position not taken.now }
     ensures none { IsNone result ↔ All IsTrue taken.now }
-    ensures free { IfSome result (λ slot. (slot < length taken.now) × (get_or taken.now slot false ≡ false)) }
+    ensures free { IfSome result
+        (λ slot. (slot < length taken.now) × (get_or taken.now slot false ≡ false)) }
 {
     taken.iter().position(|taken| !*taken)
 }

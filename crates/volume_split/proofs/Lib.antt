@@ -1,6 +1,6 @@
-pub mod Filling
-pub mod Fewest
-pub mod Smallest
-pub mod Places
-pub mod Choice
-pub mod Examples
+mod Filling
+mod Fewest
+mod Smallest
+mod Places
+mod Choice
+mod Examples

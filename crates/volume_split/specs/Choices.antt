@@ -12,8 +12,11 @@ pub record IsLeastLimit (most : ℕ) (sizes : List ℕ) (limit : ℕ) : Type 0 w
 -- the greedy groups at a target, unless they are too many or too few
 pub record IsChosen (target fewest most : ℕ) (sizes : List ℕ) (groups : List Group) : Type 0 where
   pub empty : sizes ≡ [] → groups ≡ record { start = 0; end = 0 } ∷ []
-  pub raised : most < length (greedy_runs target sizes) → (limit : ℕ) × IsLeastLimit most sizes limit × (groups ≡ groups_of (greedy_runs limit sizes))
-  pub spread : sizes ≢ [] → length (greedy_runs target sizes) ≤ most → length (greedy_runs target sizes) < min fewest (length sizes)
+  pub raised : most < length (greedy_runs target sizes)
+      → (limit : ℕ) × IsLeastLimit most sizes limit × (groups ≡ groups_of (greedy_runs limit sizes))
+  pub spread : sizes ≢ [] → length (greedy_runs target sizes) ≤ most
+      → length (greedy_runs target sizes) < min fewest (length sizes)
       → groups ≡ even_groups (length sizes) (min fewest (length sizes))
-  pub kept : sizes ≢ [] → length (greedy_runs target sizes) ≤ most → min fewest (length sizes) ≤ length (greedy_runs target sizes)
+  pub kept : sizes ≢ [] → length (greedy_runs target sizes) ≤ most
+      → min fewest (length sizes) ≤ length (greedy_runs target sizes)
       → groups ≡ groups_of (greedy_runs target sizes)

@@ -6,7 +6,8 @@ use Rattle.volume_split.specs.declared.group.Group.{Group}
 -- the groups of runs, the first of which starts at a place
 abbrev pub groups_from : ℕ → List (List ℕ) → List Group
 groups_from start [] = []
-groups_from start (run ∷ runs) = record { start = start; end = start + length run } ∷ groups_from (start + length run) runs
+groups_from start (run ∷ runs) =
+    record { start = start; end = start + length run } ∷ groups_from (start + length run) runs
 
 -- the groups of the runs of a whole list
 abbrev pub groups_of : List (List ℕ) → List Group
@@ -19,7 +20,8 @@ runs_of sizes groups = map (λ group. slice_range sizes group.start group.end) g
 -- groups that part the places from one up to another: each starts where the one before it ends
 abbrev pub Parts : ℕ → ℕ → List Group → Type 0
 Parts start end [] = start ≡ end
-Parts start end (group ∷ groups) = (group.start ≡ start) × (group.start ≤ group.end) × Parts group.end end groups
+Parts start end (group ∷ groups) =
+    (group.start ≡ start) × (group.start ≤ group.end) × Parts group.end end groups
 
 -- group k of m groups of n items, whose lengths differ by at most one
 abbrev pub even_group : ℕ → ℕ → ℕ → Group

@@ -1,11 +1,12 @@
--- Runs of neighbouring sizes. Greedy runs are filled one after another, each as far as a limit lets it.
+-- Runs of neighbouring sizes. A greedy run is filled as far as a limit lets it, then the next.
 use Rattle.std.specs.Prelude.{ℕ, ◌+◌, max, nat_le, sum, List, [], ◌∷◌, ◌++◌, if◌then◌else◌}
 
--- the runs from the present one on: a size joins it if its sum stays at most the limit, and else begins a new run
+-- the runs from this one on: a size joins it if the sum stays at most the limit, else begins a new
 abbrev pub runs_from : ℕ → List ℕ → List ℕ → List (List ℕ)
 runs_from limit run [] = run ∷ []
 runs_from limit run (size ∷ sizes) =
-    if nat_le (sum run + size) limit then runs_from limit (run ++ size ∷ []) sizes else run ∷ runs_from limit (size ∷ []) sizes
+    if nat_le (sum run + size) limit then runs_from limit (run ++ size ∷ []) sizes
+        else run ∷ runs_from limit (size ∷ []) sizes
 
 -- the greedy runs of a list of sizes
 abbrev pub greedy_runs : ℕ → List ℕ → List (List ℕ)

@@ -8,9 +8,10 @@ use crate::cutting::{count_runs, cut};
 use crate::{BigSizes, Group, Groups, NoMemory};
 use std::alloc::Global;
 
-/// Groups of sizes in bytes, from `min` to `max` of them where that can be: those of `cuts` at the target. Where these
-/// are too many, the limit is raised to the least at which they are not, and then there may be fewer than `min`. Where
-/// they are too few, the items are spread by their number alone. No items make one empty group.
+/// Groups of sizes in bytes, from `min` to `max` of them where that can be: those of `cuts` at the
+/// target. Where these are too many, the limit is raised to the least at which they are not, and
+/// then there may be fewer than `min`. Where they are too few, the items are spread by their number
+/// alone. No items make one empty group.
 pub fn choose(
     alloc: Global,
     target: u128,
@@ -23,13 +24,15 @@ pub fn choose(
     requires summable { sum sizes.now < 2 ^ 128 }
     ensures chosen { IfOk result (IsChosen target min max sizes.now) }
     ensures parted { IfOk result (Parts 0 (length sizes.now)) }
-    ensures filled { IfOk result (λ groups. sizes.now ≢ [] → All (λ group. group.start < group.end) groups) }
+    ensures filled { IfOk result
+        (λ groups. sizes.now ≢ [] → All (λ group. group.start < group.end) groups) }
     ensures whole { IfOk result (λ groups. concat (runs_of sizes.now groups) ≡ sizes.now) }
     ensures few { IfOk result (λ groups. length groups ≤ max) }
     ensures enough { IfOk result (λ groups. length (greedy_runs target sizes.now) ≤ max
         → (min ≤ length groups) ⊎ (length sizes.now ≤ length groups)) }
 
-    // Where the limit was raised, no runs that make up the sizes, at most `max` of them, have a smaller largest one.
+    // Where the limit was raised, no runs that make up the sizes, at most `max` of them, have a
+    // smaller largest one.
     ensures smallest { IfOk result (λ groups. max < length (greedy_runs target sizes.now)
         → (runs : List (List ℕ)) → concat runs ≡ sizes.now → length runs ≤ max
         → largest_run (runs_of sizes.now groups) ≤ largest_run runs) }

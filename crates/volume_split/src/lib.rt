@@ -1,6 +1,6 @@
-//! A list of sizes in bytes is split into groups of neighbouring items: greedily, at a limit on the sum of a group, or
-//! into a number of groups between two bounds. Where that number needs a greater limit, the largest group is as small
-//! as can be.
+//! A list of sizes in bytes is split into groups of neighbouring items: greedily, at a limit on the
+//! sum of a group, or into a number of groups between two bounds. Where that number needs a greater
+//! limit, the largest group is as small as can be.
 #![tactic(auto)]
 
 mod big_sizes;

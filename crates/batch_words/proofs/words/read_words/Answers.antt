@@ -4,13 +4,13 @@ use Rattle.batch_words.proofs.Commands.{meaning-unknown, run_order-never, genera
 use Rattle.batch_words.proofs.words.read_words.Goals as goal
 
 pub returns-in-run-clause-other_call : goal.returns-in-run-clause-other_call
-returns-in-run-clause-other_call c = rw c.run_order.ensures (run_order-never (drop 1 (map string_bytes c.args.words.now)))
+returns-in-run-clause-other_call c = rw c.run_order.ensures (run_order-never (items_from 1 (drop 1 (map string_bytes c.args.words.now))))
 
 pub returns-in-generate-clause-memory : goal.returns-in-generate-clause-memory
 returns-in-generate-clause-memory c = rw c.generate_order.ensures (generate_order-memory (items_from 1 (drop 1 (map string_bytes c.args.words.now))))
 
 pub returns-in-generate-clause-other_call : goal.returns-in-generate-clause-other_call
-returns-in-generate-clause-other_call c = rw c.generate_order.ensures (generate_order-never (drop 1 (map string_bytes c.args.words.now)))
+returns-in-generate-clause-other_call c = rw c.generate_order.ensures (generate_order-never (items_from 1 (drop 1 (map string_bytes c.args.words.now))))
 
 pub returns-in_default-as_str-clause-meaning : goal.returns-in_default-as_str-clause-meaning
 returns-in_default-as_str-clause-meaning c =

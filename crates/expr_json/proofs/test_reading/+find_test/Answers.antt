@@ -1,7 +1,7 @@
 use Rattle.std.proofs.Common.{refl, ap, ◌∙◌, option_map}
 use Rattle.serde_json.specs.View.{view}
 use Rattle.row_core.specs.declared.pred.Pred.{Not, IsNull}
-use Rattle.expr_json.specs.Reading.{expr_of, test_of, joined, connection_of}
+use Rattle.expr_json.specs.Reading.{expr_of, test_of, test_of_two, connection_of}
 use Rattle.expr_json.proofs.WordLemmas.{test_at, given, is_not, is_isnull, is_neither, no_parts, one_part, two_parts, test_too_long}
 use Rattle.expr_json.proofs.test_reading.+find_test.Goals as goal
 
@@ -34,14 +34,14 @@ returns-in_ok-q-in-Some-named-clause-is t c =
     given c.connected.result _ _ c.connected.ensures.is
     (ap (λ p. connection_of c.in-Some-named.connective p c.in_ok-q-in-Some-named.q) c.in_ok-p-in-Some-named.ensures.is
     ∙ ap (connection_of c.in-Some-named.connective (test_of (view c.p-item.result))) c.in_ok-q-in-Some-named.ensures.is
-    ∙ ap (λ o. joined word o (test_of (view c.p-item.result)) (test_of (view c.q-item.result)) (expr_of (view c.p-item.result)) (expr_of (view c.q-item.result))) c.in-Some-named.ensures
+    ∙ ap (λ o. test_of_two word o (test_of (view c.p-item.result)) (test_of (view c.q-item.result)) (expr_of (view c.p-item.result)) (expr_of (view c.q-item.result))) c.in-Some-named.ensures
     ∙ test_at (view c.args.value.now) word _ _ c.in-Some.ensures shape)
 
 pub returns-in-None-clause-is : goal.returns-in-None-clause-is
 returns-in-None-clause-is t c =
     let word = c.in-Some.word.now in
     given c.compared.result _ _ c.compared.ensures.is
-    (ap (λ o. joined word o (test_of (view c.p-item.result)) (test_of (view c.q-item.result)) (expr_of (view c.p-item.result)) (expr_of (view c.q-item.result))) c.in-None.ensures
+    (ap (λ o. test_of_two word o (test_of (view c.p-item.result)) (test_of (view c.q-item.result)) (expr_of (view c.p-item.result)) (expr_of (view c.q-item.result))) c.in-None.ensures
     ∙ test_at (view c.args.value.now) word _ _ c.in-Some.ensures (two_parts c.in-Some.parts.now c.p-item.result c.q-item.result c.in-len2.len_at_least c.in-len2.len_below c.p-item.is c.q-item.is))
 
 pub returns-in-empty-clause-is : goal.returns-in-empty-clause-is

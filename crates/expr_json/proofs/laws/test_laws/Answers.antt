@@ -1,5 +1,0 @@
-use Rattle.expr_json.proofs.SpellingLaws.{lists-test, nests-test, good-test, plain-test, once-test}
-use Rattle.expr_json.proofs.laws.test_laws.Goals as goal
-
-pub returns : goal.returns
-returns c = record { lists = lists-test; nests = nests-test; numbers = good-test; floats = plain-test; once = once-test }
