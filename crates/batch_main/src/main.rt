@@ -19,7 +19,7 @@ mod running;
 mod standard_output;
 mod system_clock;
 mod tables;
-mod telling;
+mod printing;
 #[cfg(test)]
 mod tests;
 mod unbuilt;
