@@ -17,9 +17,38 @@ Rose before now = (before < now) ⊎ (2 ^ 64 ≤ now + 1)
 abbrev pub HasCause : {T : Type 0} → ℕ → ℕ → Result T EstateError → Type 0
 HasCause before now result = IsErrOf result Failed → Rose before now
 
--- the same of a call on inputs
+-- a call fails, or the count of its own part is as it was
+abbrev pub IsSteady : {T : Type 0} → ℕ → ℕ → Result T EstateError → Type 0
+IsSteady before now result = IsErrOf result Failed ⊎ (now ≡ before)
+
+-- a call on the log counts a fault only where it fails, and none of another part
+abbrev pub LogSteady : {T : Type 0} → World → World → Result T EstateError → Type 0
+LogSteady old new result =
+    IsSteady old.counts.log_faults new.counts.log_faults result
+    × (new.counts.shelf_faults ≡ old.counts.shelf_faults)
+    × (new.counts.sink_faults ≡ old.counts.sink_faults)
+
+-- the same of a call on the shelf
+abbrev pub ShelfSteady : {T : Type 0} → World → World → Result T EstateError → Type 0
+ShelfSteady old new result =
+    IsSteady old.counts.shelf_faults new.counts.shelf_faults result
+    × (new.counts.log_faults ≡ old.counts.log_faults)
+    × (new.counts.sink_faults ≡ old.counts.sink_faults)
+
+-- the same of a call on the sink
+abbrev pub SinkSteady : {T : Type 0} → World → World → Result T EstateError → Type 0
+SinkSteady old new result =
+    IsSteady old.counts.sink_faults new.counts.sink_faults result
+    × (new.counts.log_faults ≡ old.counts.log_faults)
+    × (new.counts.shelf_faults ≡ old.counts.shelf_faults)
+
+-- a call on inputs fails only where their count rose
 abbrev pub InputCause : {T : Type 0} → ℕ → ℕ → Result T InputError → Type 0
 InputCause before now result = IsErrOf result input.Failed → Rose before now
+
+-- a call on inputs fails, or their count is as it was
+abbrev pub InputSteady : {T : Type 0} → ℕ → ℕ → Result T InputError → Type 0
+InputSteady before now result = IsErrOf result input.Failed ⊎ (now ≡ before)
 
 -- new is old with these bytes at this offset
 abbrev pub Holds : List ℕ → ℕ → List ℕ → List ℕ → Type 0

@@ -40,7 +40,7 @@ impl MemEstate {
     ghost use Rattle.std.specs.Prelude.{◌≡◌, ◌≢◌, ◌+◌, ◌<◌, ◌≤◌, ◌^◌, [], true, false, Contains, IfOk, OnOk, IsErrOf};
     ghost use Rattle.estate.specs.declared.estate_error.EstateError.TheVariants.{NoMemory};
     ghost use Rattle.estate.specs.declared.part_name.PartName.{PartName as Named};
-    ghost use Rattle.estate.specs.Changes.{Leads, Stays, HasCause, Rose};
+    ghost use Rattle.estate.specs.Changes.{Leads, Stays, HasCause, LogSteady, ShelfSteady, SinkSteady, Rose};
     ghost use Rattle.estate.specs.Pasts.{chosen};
     ghost use Rattle.estate.specs.Memory.{mem_world, clock_of, moments_of, time_of, past_of, HasEntered};
 
@@ -148,6 +148,9 @@ impl MemEstate {
     fn begin(&mut self) -> bool
         ensures leads { Leads Stays (mem_world self.old) (mem_world self.new) }
         ensures entered { result ≡ false → HasEntered self.old self.new }
+        ensures log { self.new.log_faults ≡ self.old.log_faults }
+        ensures shelf { self.new.shelf_faults ≡ self.old.shelf_faults }
+        ensures sink { self.new.sink_faults ≡ self.old.sink_faults }
     {
         if self.calls.is_full() {
             return true;
@@ -167,6 +170,7 @@ impl MemEstate {
         ensures leads { Leads Stays (mem_world self.old) (mem_world self.new) }
         ensures entered { OnOk result (HasEntered self.old self.new) }
         ensures cause { HasCause self.old.log_faults self.new.log_faults result }
+        ensures steady { LogSteady (mem_world self.old) (mem_world self.new) result }
         ensures failed { IsErrOf result NoMemory → ⊥ }
     {
         if self.begin() {
@@ -180,6 +184,7 @@ impl MemEstate {
         ensures leads { Leads Stays (mem_world self.old) (mem_world self.new) }
         ensures entered { OnOk result (HasEntered self.old self.new) }
         ensures cause { HasCause self.old.shelf_faults self.new.shelf_faults result }
+        ensures steady { ShelfSteady (mem_world self.old) (mem_world self.new) result }
     {
         if self.begin() {
             self.shelf_faults = self.shelf_faults.saturating_add(1);
@@ -192,6 +197,7 @@ impl MemEstate {
         ensures leads { Leads Stays (mem_world self.old) (mem_world self.new) }
         ensures entered { OnOk result (HasEntered self.old self.new) }
         ensures cause { HasCause self.old.sink_faults self.new.sink_faults result }
+        ensures steady { SinkSteady (mem_world self.old) (mem_world self.new) result }
     {
         if self.begin() {
             self.sink_faults = self.sink_faults.saturating_add(1);
@@ -293,7 +299,7 @@ impl Estate for MemEstate {
     ghost use Rattle.std.specs.Prelude.{◌≢◌, ◌⊎◌, None, Some, IsTrue, IsErrOf};
     ghost use Rattle.estate.specs.declared.estate_error.EstateError.TheVariants.{NoMemory};
     ghost use Rattle.estate.specs.Holding.{Holding, StoredPart};
-    ghost use Rattle.estate.specs.Changes.{Step, Stays, Leads, Torn, Same, Holds, HasCause};
+    ghost use Rattle.estate.specs.Changes.{Step, Stays, Leads, Torn, Same, Holds, HasCause, LogSteady, ShelfSteady, SinkSteady};
     ghost use Rattle.estate.specs.Memory.{mem_world, history_of, clock_of, counts_of, moments_of, past_of, present_of};
     ghost use Rattle.estate.specs.PastLaws.{past_lawful};
 
@@ -317,6 +323,7 @@ impl Estate for MemEstate {
         ensures written { OnOk result (IsTrue (mem_world self.old).told → Holds (mem_world self.old).holding.log at bytes.now (mem_world self.new).holding.log) }
         ensures memory { IsErrOf result NoMemory → Leads Stays (mem_world self.old) (mem_world self.new) }
         ensures cause { HasCause (mem_world self.old).counts.log_faults (mem_world self.new).counts.log_faults result }
+        ensures steady { LogSteady (mem_world self.old) (mem_world self.new) result }
         // a write under way is one since the last sync
         ensures under_way { OnOk result ((past_of self.new (moments_of self.old)).disk ≡ (present_of self.new).disk) }
     {
@@ -331,6 +338,7 @@ impl Estate for MemEstate {
         ensures durable { OnOk result ((image : Holding) → (mem_world self.new).images (mem_world self.new).now image → image.log ≡ (mem_world self.new).holding.log) }
         ensures memory { IsErrOf result NoMemory → ⊥ }
         ensures cause { HasCause (mem_world self.old).counts.log_faults (mem_world self.new).counts.log_faults result }
+        ensures steady { LogSteady (mem_world self.old) (mem_world self.new) result }
         // a sync under way has not happened
         ensures under_way { OnOk result ((past_of self.new (moments_of self.old)).disk ≡ (present_of self.old).disk) }
     {
@@ -352,6 +360,7 @@ impl Estate for MemEstate {
             ⊎ (((mem_world self.new).holding.ever ≡ (mem_world self.old).holding.ever) × ¬ (Contains (mem_world self.new).holding.held name)) }
         ensures memory { IsErrOf result NoMemory → Leads Stays (mem_world self.old) (mem_world self.new) }
         ensures cause { HasCause (mem_world self.old).counts.shelf_faults (mem_world self.new).counts.shelf_faults result }
+        ensures steady { ShelfSteady (mem_world self.old) (mem_world self.new) result }
         // a part under way is not there
         ensures under_way { OnOk result ((past_of self.new (moments_of self.old)).ever ≡ (present_of self.old).ever) }
     {
@@ -389,6 +398,7 @@ impl Estate for MemEstate {
             (mem_world self.new).holding.commits ≡ (mem_world self.old).holding.commits ++ (record { id = id.now; job = job.now; text = text.now }) ∷ []) }
         ensures memory { IsErrOf result NoMemory → Leads Stays (mem_world self.old) (mem_world self.new) }
         ensures cause { HasCause (mem_world self.old).counts.sink_faults (mem_world self.new).counts.sink_faults result }
+        ensures steady { SinkSteady (mem_world self.old) (mem_world self.new) result }
         // a commit under way is not there
         ensures under_way { OnOk result ((past_of self.new (moments_of self.old)).commits ≡ (present_of self.old).commits) }
     {

@@ -18,7 +18,7 @@ pub struct MemInputs {
 
 impl MemInputs {
     ghost use Rattle.std.specs.Prelude.{◌≡◌, ◌≤◌, ℕ, List, true, IfOk};
-    ghost use Rattle.estate.specs.Changes.{InputCause};
+    ghost use Rattle.estate.specs.Changes.{InputCause, InputSteady};
     ghost use Rattle.estate.specs.Contents.{files_in};
     ghost use Rattle.estate.specs.Memory.{mem_contents};
 
@@ -46,6 +46,7 @@ impl MemInputs {
     // Counts a call. Where it is to fail, it counts a fault too.
     fn begin(calls: &mut Calls, faults: &mut u64) -> Result<(), InputError>
         ensures cause { InputCause faults.old faults.new result }
+        ensures steady { InputSteady faults.old faults.new result }
         ensures later { faults.old ≤ faults.new }
     {
         if calls.begin() {

@@ -16,5 +16,6 @@ pub trait Printer {
         ensures keeps { KeepsPrinted (printed self.old) (printed self.new) }
         ensures all { OnOk result (IsTrue (printed self.old).told → (printed self.new).bytes ≡ (printed self.old).bytes ++ bytes.now) }
         ensures part { OnErr result (IsTrue (printed self.old).told → AddsPart bytes.now (printed self.old).bytes (printed self.new).bytes) }
-        ensures cause { OnErr result (Rose (printed self.old).faults (printed self.new).faults) };
+        ensures cause { OnErr result (Rose (printed self.old).faults (printed self.new).faults) }
+        ensures steady { OnOk result ((printed self.new).faults ≡ (printed self.old).faults) };
 }

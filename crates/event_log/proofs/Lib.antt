@@ -1,7 +1,6 @@
 mod Examples
-pub mod Flushes
-pub mod Reading
-pub mod Runs
-pub mod Starts
-pub mod StayingStarted
-pub mod Writing
+mod Flushes
+mod Reading
+mod Starts
+mod StayingStarted
+mod Writing

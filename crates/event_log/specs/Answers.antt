@@ -1,7 +1,8 @@
 -- What the answers of the log say.
-use Rattle.std.specs.Prelude.{◌≡◌, ⊤, ℕ, ◌<◌, ◌≤◌, false, List, length, Option, Some, None, Result, Ok, Err}
+use Rattle.std.specs.Prelude.{◌≡◌, ◌⊎◌, ⊤, ℕ, ◌<◌, ◌≤◌, false, List, length, Option, Some, None, Result, Ok, Err, IsErrOf}
 use Rattle.estate.specs.declared.estate_error.EstateError.{EstateError}
 use Rattle.estate.specs.declared.estate_error.EstateError.TheVariants as estate
+use Rattle.estate.specs.World.{World}
 use Rattle.event_log.specs.Blocks.{reading_of, read_after, blocks_of}
 use Rattle.event_log.specs.Started.{IsRead}
 use Rattle.event_log.specs.declared.log.TheConstants.{LOG_LIMIT}
@@ -12,6 +13,10 @@ use Rattle.event_log.specs.declared.log_error.LogError.TheVariants.{Fault, TooLa
 abbrev pub log_error : EstateError → LogError
 log_error estate.Failed = Fault
 log_error estate.NoMemory = NoMemory
+
+-- a fault of the log is answered: it is the answer, or the log's count is as it was
+abbrev pub AnswersFaults : {T : Type 0} → World → World → Result T LogError → Type 0
+AnswersFaults old new result = IsErrOf result Fault ⊎ (new.counts.log_faults ≡ old.counts.log_faults)
 
 -- the answer to a flush that makes the log this long: it is refused for that exactly where it is above the limit
 abbrev pub AnswersLength : {T : Type 0} → ℕ → Result T LogError → Type 0

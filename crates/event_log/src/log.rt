@@ -22,8 +22,7 @@ pub struct Log {
 
 impl Log {
     ghost use Rattle.event_log.specs.Started.{IsStarted};
-    ghost use Rattle.event_log.specs.Answers.{AnswersLength};
-    ghost use Rattle.event_log.specs.Runs.{GainsUpTo, AnswersRun, with_blocks};
+    ghost use Rattle.event_log.specs.Answers.{AnswersFaults, AnswersLength};
 
     /// Adds a block behind the closed gate: it writes the block with the next closed gate, syncs, opens the
     /// gate before it, and syncs. A crash leaves the block whole or not at all, and after `Ok` it leaves it.
@@ -51,6 +50,7 @@ impl Log {
         // nothing is called for a block that is too large
         ensures untouched { LOG_LIMIT < self.old.end + 10 + length body.now → estate.new ≡ estate.old }
         ensures fault { IsErrOf result LogError.Fault → Rose (E.world estate.old).counts.log_faults (E.world estate.new).counts.log_faults }
+        ensures met { AnswersFaults (E.world estate.old) (E.world estate.new) result }
     {
         let asked = self.end + 10 + body.len() as u64;
         if asked > LOG_LIMIT {
@@ -61,32 +61,6 @@ impl Log {
         write_synced(estate, self.end + 1, &block)?;
         write_synced(estate, self.end, &open)?;
         self.end = asked - 1;
-        Ok(())
-    }
-
-    /// Adds a block for each body, in order, and stops at the first that is refused.
-    pub fn flush_all<E: Estate>(
-        &mut self,
-        alloc: Global,
-        estate: &mut E,
-        bodies: &[Bytes],
-    ) -> Result<(), LogError>
-        requires { IsStarted self.old.end (E.world estate.old) }
-
-        // each image since the start is one of the start, with some of the bodies behind it, in order
-        ensures adds { Leads (Step (GainsUpTo bodies.now (length bodies.now)) None None) (E.world estate.old) (E.world estate.new) }
-
-        // once all are added, each image has them
-        ensures lands { OnOk result ((image : Holding) → (E.world estate.new).images (E.world estate.new).now image →
-            blocks_of image.log ≡ with_blocks bodies.now (blocks_of (E.world estate.old).holding.log)) }
-
-        ensures started { IsErrOf result LogError.Fault ⊎ IsStarted self.new.end (E.world estate.new) }
-        ensures too_large { AnswersRun self.old.end bodies.now result }
-        ensures fault { IsErrOf result LogError.Fault → Rose (E.world estate.old).counts.log_faults (E.world estate.new).counts.log_faults }
-    {
-        for body in bodies {
-            self.flush(alloc, estate, body)?;
-        }
         Ok(())
     }
 }

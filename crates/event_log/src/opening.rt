@@ -1,10 +1,10 @@
 ghost use Rattle.std.specs.Prelude.{◌≡◌, ◌⊎◌, ◌≤◌, ◌<◌, length, Some, None, IsTrue, IfOk, IfSome, OnOk, OnErr, IsErrOf};
 ghost use Rattle.estate.specs.declared.estate_error.EstateError.TheVariants as estate_error;
 ghost use Rattle.estate.specs.Holding.{Holding};
-ghost use Rattle.estate.specs.Changes.{Step, Stays, Leads, Rose, HasCause};
+ghost use Rattle.estate.specs.Changes.{Step, Stays, Leads, Rose, HasCause, LogSteady};
 ghost use Rattle.event_log.specs.Blocks.{SameBlocks, blocks_of, blocks_size};
 ghost use Rattle.event_log.specs.Started.{IsStarted, IsSynced, StaysFresh};
-ghost use Rattle.event_log.specs.Answers.{AnswersLog, AnswersBytes};
+ghost use Rattle.event_log.specs.Answers.{AnswersFaults, AnswersLog, AnswersBytes};
 
 use crate::log::LOG_LIMIT;
 use crate::parse::parse;
@@ -19,6 +19,7 @@ pub fn view<E: Estate>(alloc: Global, estate: &mut E) -> Result<Blocks, LogError
     ensures adds_nothing { Leads Stays (E.world estate.old) (E.world estate.new) }
     ensures answer { IsTrue (E.world estate.old).told → AnswersLog (λ blocks. blocks) (E.world estate.old).holding.log result }
     ensures fault { IsErrOf result LogError.Fault → Rose (E.world estate.old).counts.log_faults (E.world estate.new).counts.log_faults }
+    ensures met { AnswersFaults (E.world estate.old) (E.world estate.new) result }
 {
     match read_log(estate)? {
         None => Ok(Blocks::new(alloc)),
@@ -43,6 +44,7 @@ pub fn start<E: Estate>(alloc: Global, estate: &mut E) -> Result<(Log, Blocks), 
     // once it is started, each image has the blocks that are answered
     ensures lands { IfOk result (λ made. (image : Holding) → (E.world estate.new).images (E.world estate.new).now image → blocks_of image.log ≡ Some made.1) }
     ensures fault { IsErrOf result LogError.Fault → Rose (E.world estate.old).counts.log_faults (E.world estate.new).counts.log_faults }
+    ensures met { AnswersFaults (E.world estate.old) (E.world estate.new) result }
 {
     estate.log_sync()?;
     match read_log(estate)? {
@@ -63,6 +65,7 @@ fn read_log<E: Estate>(estate: &mut E) -> Result<Option<Bytes>, LogError>
     ensures bytes { IsTrue (E.world estate.old).told → AnswersBytes (E.world estate.old).holding.log result }
     ensures limit { IfOk result (λ found. IfSome found (λ bytes. length bytes ≤ LOG_LIMIT)) }
     ensures fault { IsErrOf result LogError.Fault → Rose (E.world estate.old).counts.log_faults (E.world estate.new).counts.log_faults }
+    ensures met { AnswersFaults (E.world estate.old) (E.world estate.new) result }
 {
     let len = estate.log_len()?;
     if len > LOG_LIMIT {
@@ -85,6 +88,7 @@ fn close_fresh<E: Estate>(alloc: Global, estate: &mut E) -> Result<(), EstateErr
     ensures memory { IsErrOf result estate_error.NoMemory → Leads Stays (E.world estate.old) (E.world estate.new) }
     ensures started { OnOk result (IsStarted 0 (E.world estate.new)) }
     ensures cause { HasCause (E.world estate.old).counts.log_faults (E.world estate.new).counts.log_faults result }
+    ensures steady { LogSteady (E.world estate.old) (E.world estate.new) result }
 {
     let gate = Bytes::from_slice(alloc, &[0])?;
     write_synced(estate, 0, &gate)

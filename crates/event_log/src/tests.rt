@@ -39,7 +39,9 @@ fn bodies(alloc: Global, slices: &[&[u8]]) -> Result<Blocks, LogError> {
 fn add<E: Estate>(alloc: Global, estate: &mut E, slices: &[&[u8]]) -> Result<Blocks, LogError> {
     let more = bodies(alloc, slices)?;
     let (mut log, blocks) = start(alloc, estate)?;
-    log.flush_all(alloc, estate, more.as_slice())?;
+    for body in more.as_slice() {
+        log.flush(alloc, estate, body)?;
+    }
     Ok(blocks)
 }
 

@@ -1,7 +1,7 @@
 ghost use Rattle.std.specs.Prelude.{◌≡◌, ◌≤◌, ◌++◌, [], ◌∷◌, length, None, IsTrue, IfOk, OnOk, IsErrOf};
 ghost use Rattle.estate.specs.declared.estate_error.EstateError.TheVariants as estate_error;
 ghost use Rattle.estate.specs.Holding.{Holding};
-ghost use Rattle.estate.specs.Changes.{Step, Stays, Leads, Torn, Holds, HasCause};
+ghost use Rattle.estate.specs.Changes.{Step, Stays, Leads, Torn, Holds, HasCause, LogSteady};
 ghost use Rattle.event_log.specs.Blocks.{frame};
 
 use estate::{Estate, EstateError};
@@ -27,6 +27,7 @@ pub fn write_synced<E: Estate>(estate: &mut E, at: u64, bytes: &Bytes) -> Result
         Holds (E.world estate.old).holding.log at bytes.now image.log) }
     ensures memory { IsErrOf result estate_error.NoMemory → Leads Stays (E.world estate.old) (E.world estate.new) }
     ensures cause { HasCause (E.world estate.old).counts.log_faults (E.world estate.new).counts.log_faults result }
+    ensures steady { LogSteady (E.world estate.old) (E.world estate.new) result }
 {
     estate.log_write(at, bytes)?;
     estate.log_sync()

@@ -1,6 +1,7 @@
 -- What the answers to a commit say.
-use Rattle.std.specs.Prelude.{◌≡◌, ◌≢◌, ⊤, ℕ, List, [], ◌∷◌, ◌++◌, Option, Some, None, Result, Ok, Err}
+use Rattle.std.specs.Prelude.{◌≡◌, ◌≢◌, ◌⊎◌, ⊤, ℕ, List, [], ◌∷◌, ◌++◌, Option, Some, None, Result, Ok, Err, IsErrOf}
 use Rattle.estate.specs.Holding.{job_under}
+use Rattle.estate.specs.World.{World}
 use Rattle.estate.specs.declared.commit.Commit.{Commit}
 use Rattle.estate.specs.declared.estate_error.EstateError.{EstateError}
 use Rattle.estate.specs.declared.estate_error.EstateError.TheVariants as estate
@@ -32,3 +33,7 @@ may_add commit (Ok Fresh) = Some commit
 may_add commit (Err (IdTaken other)) = None
 may_add commit (Err SinkFault) = Some commit
 may_add commit (Err NoMemory) = None
+
+-- a fault of the sink is answered: it is the answer, or the sink's count is as it was
+abbrev pub AnswersFaults : World → World → Result Committed CommitError → Type 0
+AnswersFaults old new result = IsErrOf result SinkFault ⊎ (new.counts.sink_faults ≡ old.counts.sink_faults)

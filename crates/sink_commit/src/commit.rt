@@ -1,7 +1,7 @@
 ghost use Rattle.std.specs.Prelude.{◌≡◌, ◌++◌, [], ◌∷◌, Ok, None, IsTrue, IsSome, IsErrOf};
 ghost use Rattle.estate.specs.Holding.{Holding, job_under};
 ghost use Rattle.estate.specs.Changes.{Step, Stays, Leads, Same, Rose};
-ghost use Rattle.sink_commit.specs.Answers.{Answers, commit_of, may_add};
+ghost use Rattle.sink_commit.specs.Answers.{Answers, AnswersFaults, commit_of, may_add};
 
 use crate::{CommitError, Committed};
 use estate::Estate;
@@ -31,6 +31,7 @@ pub fn commit_once<E: Estate>(
         image.commits ≡ (E.world estate.old).holding.commits ++ commit_of id.now job.now text.now ∷ [] }
 
     ensures fault { IsErrOf result CommitError.SinkFault → Rose (E.world estate.old).counts.sink_faults (E.world estate.new).counts.sink_faults }
+    ensures met { AnswersFaults (E.world estate.old) (E.world estate.new) result }
 {
     match estate.sink_committed(id)? {
         Some(other) => {
