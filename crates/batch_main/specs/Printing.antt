@@ -8,9 +8,9 @@ use Rattle.batch_main.specs.declared.answer.Answer.{Answer}
 use Rattle.batch_main.specs.declared.answer.Answer.TheVariants.{Finished, Shown, Usage, JobRefused, SinkFault, InputFault, PrintFault, NotBuilt, NoMemory}
 use Rattle.batch_main.specs.declared.refusal.Refusal.{Refusal}
 
--- these bytes were added
+-- these bytes were added, and printing did not fail
 abbrev pub AddsAll : List ℕ → Printed → Printed → Type 0
-AddsAll bytes old new = IsTrue old.told → new.bytes ≡ old.bytes ++ bytes
+AddsAll bytes old new = (IsTrue old.told → new.bytes ≡ old.bytes ++ bytes) × (new.faults ≡ old.faults)
 
 -- printing failed, and a first part of these bytes was added
 abbrev pub FailsAt : List ℕ → Printed → Printed → Type 0

@@ -2,13 +2,14 @@ ghost use Rattle.std.specs.Prelude.{None, [], IfErr, MatchResult};
 ghost use Rattle.estate.specs.Contents.{KeepsContents};
 ghost use Rattle.batch_main.specs.Causes.{HasFinished, RunCause, outside};
 ghost use Rattle.batch_main.specs.Commits.{MayCommit, StaysUnlessFailed};
+ghost use Rattle.batch_main.specs.Outcomes.{IsMet};
 ghost use Rattle.batch_main.specs.Refusals.{answer_to};
 
+use crate::Answer;
 use crate::accepted_job::read_accepted_job;
 use crate::lines::answer_line;
 use crate::refusal::Refusal;
 use crate::tables::{list_tables, text_over};
-use crate::Answer;
 use estate::{Estate, Inputs};
 use row_core::Bytes;
 use std::alloc::Global;
@@ -23,10 +24,13 @@ pub fn commit_job<E: Estate, I: Inputs>(
     ensures why { MatchResult result
         (HasFinished (I.contents inputs.old) (E.world estate.old) (E.world estate.new))
         (λ refusal. RunCause None [] (outside (I.contents inputs.old) (E.world estate.old))
-            (outside (I.contents inputs.new) (E.world estate.new)) (answer_to refusal)) }
+        (outside (I.contents inputs.new) (E.world estate.new)) (answer_to refusal)) }
     ensures stays { IfErr result (λ refusal.
         StaysUnlessFailed (E.world estate.old) (E.world estate.new) (answer_to refusal)) }
     ensures keeps { KeepsContents (I.contents inputs.old) (I.contents inputs.new) }
+    ensures input_met { IsMet Refusal.InputFault (I.contents inputs.old).faults (I.contents inputs.new).faults result }
+    ensures sink_met { IsMet Refusal.SinkFault (E.world estate.old).counts.sink_faults
+        (E.world estate.new).counts.sink_faults result }
     ensures adds { MayCommit (I.contents inputs.old) (E.world estate.old) (E.world estate.new) }
 {
     let text = inputs.job_text()?;

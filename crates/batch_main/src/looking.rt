@@ -6,7 +6,7 @@ ghost use Rattle.batch_main.specs.Answers.{status_of, printed_line};
 ghost use Rattle.batch_main.specs.Causes.{HasFault, LookCause, outside};
 ghost use Rattle.batch_main.specs.Jobs.{IsAccepted};
 ghost use Rattle.batch_main.specs.Orders.{view_of};
-ghost use Rattle.batch_main.specs.Outcomes.{LookOutcome};
+ghost use Rattle.batch_main.specs.Outcomes.{IsAnswered, IsMet, LookOutcome};
 ghost use Rattle.batch_main.specs.Printing.{Prints};
 ghost use Rattle.batch_main.specs.Refusals.{answer_to, job_answer, word_answer};
 ghost use Rattle.batch_main.specs.Views.{ShowsAsked};
@@ -72,6 +72,13 @@ pub fn look<E: Estate, I: Inputs, P: Printer>(
     ensures print_fault { result.answer ≡ Answer.PrintFault →
         Rose (P.printed printer.old).faults (P.printed printer.new).faults }
 
+    // A fault that was met is the answer, unless memory ran out for its line; a refusal stays what it is where its
+    // line was not printed.
+    ensures input_met { IsAnswered Answer.InputFault
+        (I.contents inputs.old).faults (I.contents inputs.new).faults result.answer }
+    ensures print_met { result.answer ≡ Answer.Shown →
+        (P.printed printer.new).faults ≡ (P.printed printer.old).faults }
+
     // All of it at once, with the cause of each answer; it never answers Finished or a fault of the sink.
     ensures outcome { LookOutcome (map string_bytes words.now)
         (outside (I.contents inputs.old) (E.world estate.old)) (outside (I.contents inputs.new) (E.world estate.new))
@@ -89,9 +96,10 @@ fn look_answer<I: Inputs, P: Printer>(
     inputs: &mut I,
     printer: &mut P,
 ) -> Answer
-    ensures { (text : List ℕ)
+    ensures shows { (text : List ℕ)
         × LookCause (view_of (map string_bytes words.now)) text (I.contents inputs.old) (I.contents inputs.new) result
         × Prints text (P.printed printer.old) (P.printed printer.new) result }
+    ensures met { IsAnswered Answer.InputFault (I.contents inputs.old).faults (I.contents inputs.new).faults result }
 {
     let Ok(no_memory) = answer_line(alloc, &[], &Answer::NoMemory) else {
         return Answer::NoMemory;
@@ -102,10 +110,11 @@ fn look_answer<I: Inputs, P: Printer>(
 
 // The text that the words ask for, or why there is none.
 fn asked_text<I: Inputs>(alloc: Global, words: &[String], inputs: &mut I) -> Result<Bytes, Refusal>
-    ensures { MatchResult result
+    ensures why { MatchResult result
         (ShowsAsked (view_of (map string_bytes words.now)) (I.contents inputs.old))
         (λ refusal. LookCause (view_of (map string_bytes words.now)) []
-            (I.contents inputs.old) (I.contents inputs.new) (answer_to refusal)) }
+        (I.contents inputs.old) (I.contents inputs.new) (answer_to refusal)) }
+    ensures met { IsMet Refusal.InputFault (I.contents inputs.old).faults (I.contents inputs.new).faults result }
 {
     let view = read_view(words)?;
     view_text(alloc, view, inputs)

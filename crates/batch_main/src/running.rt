@@ -5,7 +5,7 @@ ghost use Rattle.batch_main.specs.Answers.{status_of, printed_line};
 ghost use Rattle.batch_main.specs.Causes.{HasFault, HasFinished, IsTaken, RunCause, outside};
 ghost use Rattle.batch_main.specs.Commits.{Commits, MayCommit, NameFree, NameTaken, StaysUnlessFailed};
 ghost use Rattle.batch_main.specs.Orders.{run_refusal};
-ghost use Rattle.batch_main.specs.Outcomes.{RunOutcome};
+ghost use Rattle.batch_main.specs.Outcomes.{IsAnswered, IsMet, RunOutcome};
 ghost use Rattle.batch_main.specs.Refusals.{answer_to, job_answer, word_answer};
 ghost use Rattle.batch_main.specs.declared.job_refusal.JobRefusal.{JobRefusal};
 ghost use Rattle.batch_main.specs.declared.refused_kind.RefusedKind.{RefusedKind};
@@ -81,7 +81,7 @@ pub fn run<E: Estate, I: Inputs, P: Printer, C: Clock, G: Gate>(
     ensures taken_refused { IsNone (run_refusal (map string_bytes words.now))
         → NameTaken (I.contents inputs.old) (E.world estate.old)
         → Contains (Answer.NotBuilt unbuilt.Commit ∷ Answer.InputFault ∷ Answer.SinkFault ∷ Answer.NoMemory ∷ [])
-            result.answer }
+        result.answer }
 
     // A fault is answered only where the count of its own object rose in this call.
     ensures input_fault { result.answer ≡ Answer.InputFault →
@@ -92,6 +92,15 @@ pub fn run<E: Estate, I: Inputs, P: Printer, C: Clock, G: Gate>(
         Rose (P.printed printer.old).faults (P.printed printer.new).faults }
     ensures print_fault_commits { result.answer ≡ Answer.PrintFault →
         Commits (I.contents inputs.old) (E.world estate.old) (E.world estate.new) }
+
+    // A fault that was met is the answer, unless memory ran out for its line; a refusal stays what it is where its
+    // line was not printed.
+    ensures input_met { IsAnswered Answer.InputFault
+        (I.contents inputs.old).faults (I.contents inputs.new).faults result.answer }
+    ensures sink_met { IsAnswered Answer.SinkFault
+        (E.world estate.old).counts.sink_faults (E.world estate.new).counts.sink_faults result.answer }
+    ensures print_met { result.answer ≡ Answer.Finished →
+        (P.printed printer.new).faults ≡ (P.printed printer.old).faults }
 
     // All of it at once, with the cause of each answer and what was printed.
     ensures outcome { RunOutcome (map string_bytes words.now)
@@ -131,13 +140,16 @@ fn run_line<E: Estate, I: Inputs>(
 ) -> Result<Bytes, Refusal>
     ensures why { MatchResult result
         (λ line. (run_refusal (map string_bytes words.now) ≡ None)
-            × HasFinished (I.contents inputs.old) (E.world estate.old) (E.world estate.new) line)
+        × HasFinished (I.contents inputs.old) (E.world estate.old) (E.world estate.new) line)
         (λ refusal. RunCause (run_refusal (map string_bytes words.now)) []
-            (outside (I.contents inputs.old) (E.world estate.old))
-            (outside (I.contents inputs.new) (E.world estate.new)) (answer_to refusal)) }
+        (outside (I.contents inputs.old) (E.world estate.old))
+        (outside (I.contents inputs.new) (E.world estate.new)) (answer_to refusal)) }
     ensures stays { IfErr result (λ refusal.
         StaysUnlessFailed (E.world estate.old) (E.world estate.new) (answer_to refusal)) }
     ensures adds { MayCommit (I.contents inputs.old) (E.world estate.old) (E.world estate.new) }
+    ensures input_met { IsMet Refusal.InputFault (I.contents inputs.old).faults (I.contents inputs.new).faults result }
+    ensures sink_met { IsMet Refusal.SinkFault (E.world estate.old).counts.sink_faults
+        (E.world estate.new).counts.sink_faults result }
 {
     check_run(words)?;
     commit_job(alloc, estate, inputs)

@@ -1,5 +1,5 @@
 ghost use Rattle.std.specs.Prelude.{◌≡◌, length, map, All, IsTrue, IfOk};
-ghost use Rattle.estate.specs.Changes.{InputCause};
+ghost use Rattle.estate.specs.Changes.{InputCause, InputSteady};
 ghost use Rattle.estate.specs.Contents.{KeepsContents};
 ghost use Rattle.plan_model.specs.Plans.{committed_text};
 ghost use Rattle.plan_model.specs.TableNames.{tables_of};
@@ -22,6 +22,7 @@ pub fn list_tables<I: Inputs>(
     ensures tables { IfOk result (λ tables. IsTrue (I.contents inputs.old).told →
         tables.items ≡ listed (I.contents inputs.old).files (tables_of plan.now)) }
     ensures cause { InputCause (I.contents inputs.old).faults (I.contents inputs.new).faults result }
+    ensures steady { InputSteady (I.contents inputs.old).faults (I.contents inputs.new).faults result }
 {
     let names = tables_of(alloc, plan.plan())?;
     list_each(alloc, inputs, names.into_vec())
@@ -40,6 +41,7 @@ pub fn text_over<I: Inputs>(
     ensures text { IfOk result (λ text. IsTrue (I.contents inputs.old).told →
         text ≡ committed_text (I.contents inputs.old).files plan.now) }
     ensures cause { InputCause (I.contents inputs.old).faults (I.contents inputs.new).faults result }
+    ensures steady { InputSteady (I.contents inputs.old).faults (I.contents inputs.new).faults result }
 {
     let tables = read_tables(alloc, inputs, tables)?;
     Ok(answer(alloc, plan, &tables)?)
@@ -54,6 +56,7 @@ fn list_each<I: Inputs>(
     ensures tables { IfOk result (λ tables. IsTrue (I.contents inputs.old).told →
         tables.items ≡ listed (I.contents inputs.old).files names.items) }
     ensures cause { InputCause (I.contents inputs.old).faults (I.contents inputs.new).faults result }
+    ensures steady { InputSteady (I.contents inputs.old).faults (I.contents inputs.new).faults result }
 {
     let mut tables = Vec::with_capacity(alloc, names.len())?;
     for table in names {
@@ -69,6 +72,7 @@ fn file_count<I: Inputs>(inputs: &mut I, table: &Bytes) -> Result<u32, InputErro
     ensures count { IfOk result (λ files. IsTrue (I.contents inputs.old).told →
         length ((I.contents inputs.old).files table.now) ≡ files) }
     ensures cause { InputCause (I.contents inputs.old).faults (I.contents inputs.new).faults result }
+    ensures steady { InputSteady (I.contents inputs.old).faults (I.contents inputs.new).faults result }
 {
     let sizes = inputs.file_sizes(table)?;
     match u32::try_from(sizes.as_slice().len()) {
@@ -88,6 +92,7 @@ fn read_tables<I: Inputs>(
     ensures tables { IfOk result (λ rows. IsTrue (I.contents inputs.old).told →
         rows ≡ with_files (I.contents inputs.old).files (map (λ table. table.table) tables.items)) }
     ensures cause { InputCause (I.contents inputs.old).faults (I.contents inputs.new).faults result }
+    ensures steady { InputSteady (I.contents inputs.old).faults (I.contents inputs.new).faults result }
 {
     let mut made = Vec::with_capacity(alloc, tables.len())?;
     for table in tables {
@@ -107,6 +112,7 @@ fn read_table<I: Inputs>(
     ensures files { IfOk result (λ made. IsTrue (I.contents inputs.old).told →
         made ≡ record { table = table.table; rows = (I.contents inputs.old).files table.table }) }
     ensures cause { InputCause (I.contents inputs.old).faults (I.contents inputs.new).faults result }
+    ensures steady { InputSteady (I.contents inputs.old).faults (I.contents inputs.new).faults result }
 {
     let rows = read_files(alloc, inputs, &table.table, table.files)?;
     Ok(TableFiles {
@@ -127,6 +133,7 @@ fn read_files<I: Inputs>(
     ensures files { IfOk result (λ made. IsTrue (I.contents inputs.old).told →
         made ≡ (I.contents inputs.old).files table.now) }
     ensures cause { InputCause (I.contents inputs.old).faults (I.contents inputs.new).faults result }
+    ensures steady { InputSteady (I.contents inputs.old).faults (I.contents inputs.new).faults result }
 {
     let mut made = Vec::new(alloc);
     for file in 0..files {

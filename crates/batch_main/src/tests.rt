@@ -1,5 +1,4 @@
-use crate::orders::is_view;
-use crate::{look, run};
+use crate::{look, run, serve};
 use estate::{
     Files, FixedClock, Losses, MemEstate, MemInputs, MemPrinter, NoGate, Numbers, Table, Tables,
 };
@@ -122,7 +121,7 @@ fn words_of(alloc: Global, line: &str) -> Result<Vec<String>, NoMemory> {
 }
 
 // Serves the words as the program does, and gives the status and what was printed.
-fn serve(
+fn serve_words(
     alloc: Global,
     words: &[String],
     estate: &mut MemEstate,
@@ -132,20 +131,16 @@ fn serve(
     let tables = tables_of(alloc, given.tables)?;
     let mut inputs = MemInputs::new(alloc, &job, &tables, &numbers(alloc, given.inputs)?)?;
     let mut printer = MemPrinter::new(alloc, &numbers(alloc, given.printer)?)?;
-    let outcome = if is_view(words) {
-        look(alloc, words, estate, &mut inputs, &mut printer)
-    } else {
-        let mut clock = FixedClock::new(alloc, &numbers(alloc, &[])?)?;
-        run(
-            alloc,
-            words,
-            estate,
-            &mut inputs,
-            &mut printer,
-            &mut clock,
-            &NoGate,
-        )
-    };
+    let mut clock = FixedClock::new(alloc, &numbers(alloc, &[])?)?;
+    let outcome = serve(
+        alloc,
+        words,
+        estate,
+        &mut inputs,
+        &mut printer,
+        &mut clock,
+        &NoGate,
+    );
     Ok((outcome.status, printer.printed()?))
 }
 
@@ -153,7 +148,7 @@ fn serve(
 fn serve_line(alloc: Global, line: &str, given: Given<'_>) -> Result<(u8, Bytes, usize), NoMemory> {
     let mut estate = new_estate(alloc, given.estate)?;
     let words = words_of(alloc, line)?;
-    let (status, printed) = serve(alloc, words.as_slice(), &mut estate, given)?;
+    let (status, printed) = serve_words(alloc, words.as_slice(), &mut estate, given)?;
     Ok((status, printed, estate.commits()?.as_slice().len()))
 }
 
@@ -187,7 +182,7 @@ fn commits_the_rows_that_pass(rt: HostRuntime) -> Result<(), Fail> {
         let mut estate = new_estate(alloc, &[])?;
         let tables = [("orders", files)];
         let given = over(JOB.as_bytes(), &tables);
-        let (status, printed) = serve(alloc, words.as_slice(), &mut estate, given)?;
+        let (status, printed) = serve_words(alloc, words.as_slice(), &mut estate, given)?;
         let (job, text) = first_commit(alloc, &estate)?;
         assert_eq!(rt; status, 0);
         assert_eq!(rt; printed.as_slice(), b"finished job=orders\n".as_slice());
@@ -204,7 +199,7 @@ fn commits_a_join_and_an_aggregate(rt: HostRuntime) -> Result<(), Fail> {
     let mut estate = new_estate(alloc, &[])?;
     let words = words_of(alloc, "run --workers 0")?;
     let given = over(TOTALS.as_bytes(), TOTALS_TABLES);
-    let (status, printed) = serve(alloc, words.as_slice(), &mut estate, given)?;
+    let (status, printed) = serve_words(alloc, words.as_slice(), &mut estate, given)?;
     let (_, text) = first_commit(alloc, &estate)?;
     assert_eq!(rt; status, 0);
     assert_eq!(rt; printed.as_slice(), b"finished job=totals\n".as_slice());
@@ -227,7 +222,7 @@ fn shows_and_writes_nothing(rt: HostRuntime) -> Result<(), Fail> {
         let mut estate = new_estate(alloc, &[])?;
         let words = words_of(alloc, line)?;
         let given = over(job.as_bytes(), tables);
-        let (status, printed) = serve(alloc, words.as_slice(), &mut estate, given)?;
+        let (status, printed) = serve_words(alloc, words.as_slice(), &mut estate, given)?;
         assert_eq!(rt; status, 0);
         assert_eq!(rt; printed.as_slice(), shown.as_bytes());
         assert_eq!(rt; estate.moments(), 1);
@@ -263,7 +258,7 @@ fn refuses_words(rt: HostRuntime) -> Result<(), Fail> {
         assert_eq!(rt; commits, 0);
     }
     let mut estate = new_estate(alloc, &[])?;
-    let (status, printed) = serve(alloc, &[], &mut estate, over(b"[", &[]))?;
+    let (status, printed) = serve_words(alloc, &[], &mut estate, over(b"[", &[]))?;
     assert_eq!(rt; status, 1);
     assert_eq!(rt; printed.as_slice(), b"usage at=0 no-command\n".as_slice());
     Ok(())
@@ -471,7 +466,7 @@ fn a_second_run_commits_nothing_more(rt: HostRuntime) -> Result<(), Fail> {
     let alloc = rt.alloc();
     let mut estate = new_estate(alloc, &[])?;
     let words = words_of(alloc, "run")?;
-    let first = serve(
+    let first = serve_words(
         alloc,
         words.as_slice(),
         &mut estate,
@@ -482,12 +477,12 @@ fn a_second_run_commits_nothing_more(rt: HostRuntime) -> Result<(), Fail> {
     let other =
         b"{\"job\":\"orders\",\"nodes\":[{\"op\":\"source\",\"table\":\"t\",\"columns\":[[\"k\",\"int\"]]},{\"op\":\"sink\",\"input\":0,\"name\":\"s\"}]}";
     for job in [JOB.as_bytes(), other.as_slice()] {
-        let (status, printed) = serve(alloc, words.as_slice(), &mut estate, over(job, &[]))?;
+        let (status, printed) = serve_words(alloc, words.as_slice(), &mut estate, over(job, &[]))?;
         assert_eq!(rt; status, 18);
         assert_eq!(rt; printed.as_slice(), b"not-built commit\n".as_slice());
     }
     let reference = words_of(alloc, "reference")?;
-    let shown = serve(
+    let shown = serve_words(
         alloc,
         reference.as_slice(),
         &mut estate,

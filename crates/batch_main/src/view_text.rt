@@ -1,6 +1,7 @@
 ghost use Rattle.std.specs.Prelude.{Ok, [], MatchResult};
 ghost use Rattle.estate.specs.Contents.{KeepsContents};
 ghost use Rattle.batch_main.specs.Causes.{LookCause};
+ghost use Rattle.batch_main.specs.Outcomes.{IsMet};
 ghost use Rattle.batch_main.specs.Refusals.{answer_to};
 ghost use Rattle.batch_main.specs.Views.{Shows};
 
@@ -20,6 +21,7 @@ pub fn view_text<I: Inputs>(alloc: Global, view: View, inputs: &mut I) -> Result
         (Shows view (I.contents inputs.old))
         (λ refusal. LookCause (Ok view) [] (I.contents inputs.old) (I.contents inputs.new) (answer_to refusal)) }
     ensures keeps { KeepsContents (I.contents inputs.old) (I.contents inputs.new) }
+    ensures met { IsMet Refusal.InputFault (I.contents inputs.old).faults (I.contents inputs.new).faults result }
 {
     let text = inputs.job_text()?;
     let job = read_accepted_job(alloc, &text)?;
