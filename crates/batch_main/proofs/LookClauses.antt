@@ -24,8 +24,11 @@ use Rattle.batch_main.specs.declared.word_refusal.WordRefusal.{WordRefusal}
 use Rattle.batch_main.specs.declared.word_refusal.WordRefusal.TheVariants as words_refused
 use Rattle.batch_main.proofs.RunClauses.{not_both}
 
+abbrev refusing : WordRefusal → Result View WordRefusal
+refusing r = Err r
+
 -- words that are refused ask for nothing
-not_asked : (r : WordRefusal) → IsOk (Err {A = View} r) → ⊥
+not_asked : (r : WordRefusal) → IsOk (refusing r) → ⊥
 not_asked r ok = let impossible : false ≡ true = ok in cc
 
 module _ (text : List ℕ) (old new : Contents) where
@@ -34,7 +37,7 @@ module _ (text : List ℕ) (old new : Contents) where
   words_at r Shown c = absurd c
   words_at r PrintFault c = absurd c
   words_at r (Usage at kind) c = let same : r ≡ words_refused.Usage at kind = cc c in (0, omega arith, ap word_answer same)
-  words_at r (JobRefused kind node name) c = absurd (not_asked r c.0)
+  words_at r (JobRefused kind at name) c = absurd (not_asked r c.0)
   words_at r SinkFault c = absurd c
   words_at r InputFault c = absurd (not_asked r c.0)
   words_at r (NotBuilt what) c = let same : r ≡ words_refused.NotBuilt what = cc c in (0, omega arith, ap word_answer same)
@@ -51,8 +54,8 @@ module _ (text : List ℕ) (old new : Contents) where
   refused_at view fault Shown c told has = let j = c told in absurd (not_both old.job j.0 fault j.1 (has told))
   refused_at view fault PrintFault c told has = let j = c told in absurd (not_both old.job j.0 fault j.1 (has told))
   refused_at view fault (Usage at kind) c told has = absurd (cc c)
-  refused_at view fault (JobRefused kind node name) c told has =
-      (0, omega arith, ap job_answer (same_Some fault (record { kind = kind; node = node; name = name }) (sym (has told) ∙ c.1 told)))
+  refused_at view fault (JobRefused kind at name) c told has =
+      (0, omega arith, ap job_answer (same_Some fault (record { kind = kind; node = at; name = name }) (sym (has told) ∙ c.1 told)))
   refused_at view fault SinkFault c told has = absurd c
   refused_at view fault InputFault c told has = (1, omega arith, refl)
   refused_at view fault (NotBuilt what) c told has = absurd (cc c)
@@ -70,7 +73,7 @@ module _ (text : List ℕ) (old new : Contents) where
   completes_at view before after Shown c prints told job accepted reads shows = (0, omega arith, refl)
   completes_at view before after PrintFault c prints told job accepted reads shows = absurd (shows prints.0)
   completes_at view before after (Usage at kind) c prints told job accepted reads shows = absurd (cc c)
-  completes_at view before after (JobRefused kind node name) c prints told job accepted reads shows = absurd (not_both old.job job _ accepted (c.1 told))
+  completes_at view before after (JobRefused kind at name) c prints told job accepted reads shows = absurd (not_both old.job job _ accepted (c.1 told))
   completes_at view before after SinkFault c prints told job accepted reads shows = absurd c
   completes_at view before after InputFault c prints told job accepted reads shows = absurd (reads c.1)
   completes_at view before after (NotBuilt what) c prints told job accepted reads shows = absurd (cc c)
@@ -98,9 +101,9 @@ module _ (words : List (List ℕ)) (old new : Outside) (before after : Printed) 
   pub not_built : (what : Unbuilt) → given ≡ NotBuilt what → view_of words ≡ Err (words_refused.NotBuilt what)
   not_built what is = caused (NotBuilt what) is
 
-  pub refused_for : (kind : RefusedKind) (node : Option ℕ) (name : Option (List ℕ)) → given ≡ JobRefused kind node name
-      → HasFault old.inputs (record { kind = kind; node = node; name = name })
-  refused_for kind node name is = (caused (JobRefused kind node name) is).1
+  pub refused_for : (kind : RefusedKind) (at : Option ℕ) (name : Option (List ℕ)) → given ≡ JobRefused kind at name
+      → HasFault old.inputs (record { kind = kind; node = at; name = name })
+  refused_for kind at name is = (caused (JobRefused kind at name) is).1
 
   pub input_fault : given ≡ InputFault → Rose old.inputs.faults new.inputs.faults
   input_fault is = (caused InputFault is).1

@@ -119,7 +119,7 @@ listed_right files names = All-map (λ (table : ListedTable). table.files ≡ le
 
 -- a call that succeeds counts no fault
 pub steady_ok : {T : Type 0} (result : Result T InputError) (value : T) (before now : ℕ) → result ≡ Ok value → InputSteady before now result → now ≡ before
-steady_ok {T} result value before now is (inl failed) = let impossible : Ok {E = InputError} value ≡ Err Failed = sym is ∙ failed in absurd (cc impossible)
+steady_ok {T} result value before now is (inl failed) = let impossible : Ok value ≡ Err Failed = sym is ∙ failed in absurd (cc impossible)
 steady_ok result value before now is (inr same) = same
 
 -- what holds of all items holds of the first

@@ -118,7 +118,7 @@ module _ (refused : Option WordRefusal) (line : List ℕ) (old new : Outside) wh
   words_at r Shown c is = absurd c
   words_at r PrintFault c is = served r _ is c.0
   words_at r (Usage at kind) c is = told_words r (words_refused.Usage at kind) is c
-  words_at r (JobRefused kind node name) c is = served r _ is c.0
+  words_at r (JobRefused kind at name) c is = served r _ is c.0
   words_at r SinkFault c is = served r _ is c.0
   words_at r InputFault c is = served r _ is c.0
   words_at r (NotBuilt what) (inl told) is = told_words r (words_refused.NotBuilt what) is told
@@ -138,8 +138,8 @@ module _ (refused : Option WordRefusal) (line : List ℕ) (old new : Outside) wh
   refused_always fault Shown c none told has = absurd c
   refused_always fault PrintFault c none told has = let j = (c.1).is told in absurd (not_both old.inputs.job j.0 fault j.1 (has told))
   refused_always fault (Usage at kind) c none told has = served (words_refused.Usage at kind) _ c none
-  refused_always fault (JobRefused kind node name) c none told has =
-      (0, omega arith, ap job_answer (same_Some fault (record { kind = kind; node = node; name = name }) (sym (has told) ∙ c.1 told)))
+  refused_always fault (JobRefused kind at name) c none told has =
+      (0, omega arith, ap job_answer (same_Some fault (record { kind = kind; node = at; name = name }) (sym (has told) ∙ c.1 told)))
   refused_always fault SinkFault c none told has = let j = c.2 told in absurd (not_both old.inputs.job j.0 fault j.1 (has told))
   refused_always fault InputFault c none told has = (1, omega arith, refl)
   refused_always fault (NotBuilt what) (inl is) none told has = served (words_refused.NotBuilt what) _ is none
@@ -152,7 +152,7 @@ module _ (refused : Option WordRefusal) (line : List ℕ) (old new : Outside) wh
   taken_refused Shown c none name = absurd c
   taken_refused PrintFault c none name = absurd (not_finished old.inputs old.estate new.estate line c.1 name)
   taken_refused (Usage at kind) c none name = served (words_refused.Usage at kind) _ c none
-  taken_refused (JobRefused kind node called) c none name = absurd (not_both old.inputs.job name.job _ name.accepted (c.1 name.told))
+  taken_refused (JobRefused kind at called) c none name = absurd (not_both old.inputs.job name.job _ name.accepted (c.1 name.told))
   taken_refused SinkFault c none name = (2, omega arith, refl)
   taken_refused InputFault c none name = (1, omega arith, refl)
   taken_refused (NotBuilt what) (inl is) none name = served (words_refused.NotBuilt what) _ is none
@@ -167,7 +167,7 @@ module _ (refused : Option WordRefusal) (line : List ℕ) (old new : Outside) wh
   completes before after Shown c prints none name reads commits shows = absurd c
   completes before after PrintFault c prints none name reads commits shows = absurd (shows prints.0)
   completes before after (Usage at kind) c prints none name reads commits shows = served (words_refused.Usage at kind) _ c none
-  completes before after (JobRefused kind node called) c prints none name reads commits shows =
+  completes before after (JobRefused kind at called) c prints none name reads commits shows =
       absurd (not_both old.inputs.job name.job _ name.accepted (c.1 name.told))
   completes before after SinkFault c prints none name reads commits shows = absurd (commits c.1)
   completes before after InputFault c prints none name reads commits shows = absurd (reads c.1)
@@ -202,9 +202,9 @@ module _ (words : List (List ℕ)) (old new : Outside) (before after : Printed) 
       by (inl told) = absurd (never_taken (meaning words) told)
       by (inr c) = c.2
 
-  pub refused_for : (kind : RefusedKind) (node : Option ℕ) (name : Option (List ℕ)) → given ≡ JobRefused kind node name
-      → HasFault old.inputs (record { kind = kind; node = node; name = name })
-  refused_for kind node name is = (caused (JobRefused kind node name) is).1
+  pub refused_for : (kind : RefusedKind) (at : Option ℕ) (name : Option (List ℕ)) → given ≡ JobRefused kind at name
+      → HasFault old.inputs (record { kind = kind; node = at; name = name })
+  refused_for kind at name is = (caused (JobRefused kind at name) is).1
 
   pub input_fault : given ≡ InputFault → Rose old.inputs.faults new.inputs.faults
   input_fault is = (caused InputFault is).1

@@ -52,8 +52,8 @@ abbrev pub RunCause : Option WordRefusal → List ℕ → Outside → Outside �
 RunCause refused line old new Finished = (refused ≡ None) × HasFinished old.inputs old.estate new.estate line
 RunCause refused line old new PrintFault = (refused ≡ None) × HasFinished old.inputs old.estate new.estate line
 RunCause refused line old new (Usage at kind) = refused ≡ Some (words.Usage at kind)
-RunCause refused line old new (JobRefused kind node name) =
-    (refused ≡ None) × HasFault old.inputs (record { kind = kind; node = node; name = name })
+RunCause refused line old new (JobRefused kind at name) =
+    (refused ≡ None) × HasFault old.inputs (record { kind = kind; node = at; name = name })
 RunCause refused line old new SinkFault =
     (refused ≡ None) × Rose old.estate.counts.sink_faults new.estate.counts.sink_faults × IsJob old.inputs
 RunCause refused line old new InputFault = (refused ≡ None) × Rose old.inputs.faults new.inputs.faults
@@ -67,8 +67,8 @@ abbrev pub LookCause : Result View WordRefusal → List ℕ → Contents → Con
 LookCause asked text old new Shown = ShowsAsked asked old text
 LookCause asked text old new PrintFault = ShowsAsked asked old text
 LookCause asked text old new (Usage at kind) = asked ≡ Err (words.Usage at kind)
-LookCause asked text old new (JobRefused kind node name) =
-    IsOk asked × HasFault old (record { kind = kind; node = node; name = name })
+LookCause asked text old new (JobRefused kind at name) =
+    IsOk asked × HasFault old (record { kind = kind; node = at; name = name })
 LookCause asked text old new InputFault = IsOk asked × Rose old.faults new.faults
 LookCause asked text old new (NotBuilt what) = asked ≡ Err (words.NotBuilt what)
 LookCause asked text old new NoMemory = ⊤
