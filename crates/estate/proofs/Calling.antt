@@ -18,7 +18,7 @@ use Rattle.estate.specs.Shelf.{stored, ever_at, held_in, HasHappened, LosesFrom}
 use Rattle.estate.specs.Pasts.{Past, IsLeftOf, past_world, History, past_at, commits_in, commits_at, HasEnded, Enters}
 use Rattle.estate.proofs.Keeping.{LogStep, ShelfStep, SinkStep, steps_lead}
 use Rattle.estate.proofs.Stepping.{filter_all, all_until, log_same, log_syncs, sink_same, shelf_stays, held_after, ever_still, happened_until, filter_before, filter_still}
-use Rattle.estate.proofs.Leading.{rose_earlier}
+use Rattle.estate.proofs.Laws.{rose_earlier}
 
 -- the present
 

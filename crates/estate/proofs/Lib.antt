@@ -1,10 +1,9 @@
-pub mod ContentsKept
-pub mod Calling
-pub mod Keeping
-pub mod Leading
-pub mod Losing
-pub mod Ordered
-pub mod Recalling
-pub mod Shelving
-pub mod Stepping
-pub mod Torn
+mod Calling
+mod Keeping
+pub mod Laws
+mod Losing
+mod Ordered
+mod Recalling
+mod Shelving
+mod Stepping
+mod Torn

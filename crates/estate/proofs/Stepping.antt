@@ -18,7 +18,7 @@ use Rattle.estate.specs.Shelf.{is_lost_by, is_lost, stored, ever_at, held_at, he
 use Rattle.estate.specs.Pasts.{commits_in, commits_at}
 use Rattle.estate.specs.PastLaws.{torn_some, torn_applied}
 use Rattle.estate.proofs.Torn.{torn_refl}
-use Rattle.estate.proofs.Leading.{may_stay, held_stays}
+use Rattle.estate.proofs.Laws.{may_stay, held_stays}
 use Rattle.estate.proofs.Keeping.{LogGoes, LogStep, ShelfStep, SinkStep}
 
 -- dated entries

@@ -3,7 +3,7 @@ use Rattle.std.proofs.Common.{◌≡◌, inl, inr, ⊎_elim, ℕ, ◌+◌, ◌<�
 use Rattle.estate.specs.Holding.{Holding}
 use Rattle.estate.specs.World.{World, IsWorld}
 use Rattle.estate.specs.Changes.{Torn, Holds, Step, Stays, Leads}
-use Rattle.estate.proofs.Leading.{leads_on, leads_by, now_since, step_by, step_both, told_on}
+use Rattle.estate.proofs.Laws.{leads_on, leads_by, now_since, step_by, step_both, told_on}
 use Rattle.event_log.specs.Blocks.{blocks_of, frame, with_block, SameBlocks, MayGainBlock}
 use Rattle.event_log.specs.Started.{IsFront, IsClosedBehind, IsStarted}
 use Rattle.event_log.proofs.Reading.{blocks_of-closed, blocks_of-gate, open_gate, front_push, length-frame}

@@ -3,7 +3,7 @@ use Rattle.std.proofs.Common.{◌≡◌, inl, inr, ℕ, zero, ◌+◌, ◌<◌, 
 use Rattle.estate.specs.Holding.{Holding}
 use Rattle.estate.specs.World.{World, IsWorld}
 use Rattle.estate.specs.Changes.{Torn, Holds, Step, Stays, Leads}
-use Rattle.estate.proofs.Leading.{leads_after, leads_by, leads_more, now_since, step_by}
+use Rattle.estate.proofs.Laws.{leads_after, leads_by, leads_more, now_since, step_by}
 use Rattle.event_log.specs.Blocks.{blocks_of, read_after, SameBlocks}
 use Rattle.event_log.specs.Answers.{AnswersParse, WhyUnread, AnswersBytes}
 use Rattle.event_log.specs.declared.log.TheConstants.{LOG_LIMIT}

@@ -4,7 +4,7 @@ use Rattle.estate.specs.Holding.{Holding, StoredPart}
 use Rattle.estate.specs.declared.commit.Commit.{Commit}
 use Rattle.estate.specs.World.{World, IsWorld}
 use Rattle.estate.specs.Changes.{Same, Step, Leads}
-use Rattle.estate.proofs.Leading.{now_since}
+use Rattle.estate.proofs.Laws.{now_since}
 use Rattle.event_log.specs.Blocks.{blocks_of, SameBlocks}
 use Rattle.event_log.specs.Started.{IsStarted}
 use Rattle.event_log.proofs.Reading.{blocks_of-closed}

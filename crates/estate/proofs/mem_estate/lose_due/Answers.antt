@@ -1,5 +1,5 @@
 use Rattle.std.proofs.Common.{inl, inr, ⊎_elim, refl, arith}
-use Rattle.estate.proofs.Leading.{rose_later, rose_earlier}
+use Rattle.estate.proofs.Laws.{rose_later, rose_earlier}
 use Rattle.estate.proofs.Losing.{loses_then, loses_none}
 use Rattle.estate.proofs.mem_estate.lose_due.Goals as goal
 

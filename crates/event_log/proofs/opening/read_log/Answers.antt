@@ -1,4 +1,4 @@
-use Rattle.estate.proofs.Leading.{leads_stays}
+use Rattle.estate.proofs.Laws.{leads_stays}
 use Rattle.event_log.proofs.opening.read_log.Goals as goal
 
 pub returns-in_err-log_read-clause-leads : goal.returns-in_err-log_read-clause-leads

@@ -1,7 +1,7 @@
 use Rattle.std.proofs.Common.{◌≡◌, ◌⊎◌, inl, inr, ℕ, ◌≤◌, List, length, Some, Result, Ok, Err, OnErr, IsErrOf, IsTrue, refl, sym, ◌∙◌, ap, subst, arith, rules}
 use Rattle.estate.specs.declared.estate_error.EstateError.{EstateError}
 use Rattle.estate.specs.declared.estate_error.EstateError.TheVariants as estate
-use Rattle.estate.proofs.Leading.{leads_stays, told_on}
+use Rattle.estate.proofs.Laws.{leads_stays, told_on}
 use Rattle.event_log.specs.Blocks.{blocks_of}
 use Rattle.event_log.specs.Answers.{AnswersBytes, log_error}
 use Rattle.event_log.specs.declared.log_error.LogError.{LogError}

@@ -1,6 +1,6 @@
 use Rattle.std.proofs.Common.{length, None, Result, Ok, Err, OnOk, ◌∙◌}
 use Rattle.estate.specs.Changes.{Torn}
-use Rattle.estate.proofs.Leading.{leads_before, told_on}
+use Rattle.estate.proofs.Laws.{leads_before, told_on}
 use Rattle.event_log.proofs.write.write_synced.Goals as goal
 
 on_ok : {T E P Q : Type 0} (result : Result T E) → (P → Q) → OnOk result P → OnOk result Q

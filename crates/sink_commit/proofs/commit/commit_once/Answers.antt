@@ -4,7 +4,7 @@ use Rattle.estate.specs.Changes.{Same, Step, Stays, Leads}
 use Rattle.estate.specs.declared.commit.Commit.{Commit}
 use Rattle.estate.specs.declared.estate_error.EstateError.{EstateError}
 use Rattle.estate.specs.declared.estate_error.EstateError.TheVariants as estate
-use Rattle.estate.proofs.Leading.{leads_after, leads_stays}
+use Rattle.estate.proofs.Laws.{leads_after, leads_stays}
 use Rattle.sink_commit.specs.declared.committed.Committed.{Committed}
 use Rattle.sink_commit.specs.declared.commit_error.CommitError.{CommitError}
 use Rattle.sink_commit.specs.Answers.{commit_error, may_add}

@@ -1,6 +1,6 @@
 use Rattle.std.proofs.Common.{refl, ◌≡◌, ◌+◌, ◌*◌, ◌≤◌, length, arith, ℕ}
 use Rattle.estate.specs.Memory.{mem_world, history_of, clock_of, counts_of}
-use Rattle.estate.proofs.Leading.{leads_start}
+use Rattle.estate.proofs.Laws.{leads_start}
 use Rattle.estate.proofs.Calling.{enters_by, enter_leads, ended_later, below_by}
 use Rattle.estate.proofs.Stepping.{all_until}
 use Rattle.estate.proofs.mem_estate.MemEstate.begin.Goals as goal

@@ -6,7 +6,7 @@ use Rattle.estate.specs.Disk.{overwritten}
 use Rattle.estate.specs.Changes.{Torn}
 use Rattle.estate.specs.Memory.{mem_world, history_of, clock_of, counts_of}
 use Rattle.estate.proofs.Torn.{torn_refl}
-use Rattle.estate.proofs.Leading.{leads_more}
+use Rattle.estate.proofs.Laws.{leads_more}
 use Rattle.estate.proofs.Stepping.{log_writes, whole_write, sink_same, shelf_stays}
 use Rattle.estate.proofs.Calling.{call_leads, leads_same, log_kept, log_now, push_ended}
 use Rattle.estate.specs.Memory.{moments_of, time_of}

@@ -10,7 +10,7 @@ use Rattle.estate.specs.Shelf.{held_in, stored, HasHappened}
 use Rattle.estate.specs.PastLaws.{past_lawful}
 use Rattle.estate.specs.Changes.{Same}
 use Rattle.estate.specs.Memory.{mem_world, history_of, clock_of, counts_of}
-use Rattle.estate.proofs.Leading.{leads_more}
+use Rattle.estate.proofs.Laws.{leads_more}
 use Rattle.estate.proofs.Stepping.{log_same, sink_same, held_after, happened_until, all_until}
 use Rattle.estate.proofs.Losing.{shelf_puts, held_add, happened_add, fresh_by}
 use Rattle.estate.proofs.Recalling.{held_few}

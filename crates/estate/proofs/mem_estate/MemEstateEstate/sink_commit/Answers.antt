@@ -3,7 +3,7 @@ use Rattle.estate.specs.declared.committed.Committed.{Committed}
 use Rattle.estate.specs.declared.commit.Commit.{Commit}
 use Rattle.estate.specs.Changes.{Same}
 use Rattle.estate.specs.Memory.{mem_world, history_of, clock_of, counts_of}
-use Rattle.estate.proofs.Leading.{leads_more}
+use Rattle.estate.proofs.Laws.{leads_more}
 use Rattle.estate.proofs.Stepping.{log_same, sink_gains, shelf_stays}
 use Rattle.estate.proofs.Calling.{call_leads, leads_same}
 use Rattle.estate.specs.Memory.{moments_of, time_of}

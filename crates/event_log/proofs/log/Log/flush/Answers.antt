@@ -4,7 +4,7 @@ use Rattle.estate.specs.declared.estate_error.EstateError.TheVariants as estate
 use Rattle.estate.specs.Holding.{Holding}
 use Rattle.estate.specs.World.{World}
 use Rattle.estate.specs.Changes.{Torn, Holds, Step, Leads}
-use Rattle.estate.proofs.Leading.{leads_by, step_by}
+use Rattle.estate.proofs.Laws.{leads_by, step_by}
 use Rattle.event_log.specs.declared.log_error.LogError.{LogError}
 use Rattle.event_log.specs.declared.log_error.LogError.TheVariants.{Fault}
 use Rattle.event_log.specs.Blocks.{SameBlocks, MayGainBlock}

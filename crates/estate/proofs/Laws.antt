@@ -1,9 +1,11 @@
--- How what calls do to an estate goes together.
-use Rattle.std.proofs.Common.{ap, [], ◌∷◌, ◌++◌, ◌≡◌, inl, inr, ⊎_elim, ℕ, ◌≤◌, List, Option, Some, None, IsTrue, Contains, refl, sym, ◌∙◌, subst, arith}
+-- The laws of estates and inputs, which other crates may cite: what leads to what composes, stays and widens, counts rise,
+-- and contents are kept.
+use Rattle.std.proofs.Common.{ap, Bool, [], ◌∷◌, ◌++◌, ◌≡◌, inl, inr, ⊎_elim, ℕ, ◌≤◌, List, Option, Some, None, IsTrue, Contains, refl, sym, ◌∙◌, subst, arith}
 use Rattle.estate.specs.declared.part_name.PartName.{PartName}
 use Rattle.estate.specs.Holding.{StoredPart, Holding, Counts}
 use Rattle.estate.specs.declared.commit.Commit.{Commit}
 use Rattle.estate.specs.World.{World, IsWorld}
+use Rattle.estate.specs.Contents.{Contents, KeepsContents}
 use Rattle.estate.specs.Changes.{Rose, Same, MayGain, WasHeld, Step, Stays, Counted, Elapses, Leads}
 
 -- a count that rose in a part of the time rose in all of it
@@ -174,4 +176,17 @@ leads_more writes part commit a b same first = record {
   time = first.time;
   holding = λ told. step_stays writes part commit same a.holding b.holding (first.holding told);
   images = λ image since. let from = first.images image since in (from.0, from.1, step_stays writes part commit same from.0 image from.2);
+}
+
+-- before the first call of inputs
+pub keeps_contents_start : (a : Contents) → KeepsContents a a
+keeps_contents_start a = record { told = refl; job = λ told. refl; files = λ told table. refl; faults = omega arith }
+
+-- one call of inputs more
+pub keeps_contents_on : (a b c : Contents) → KeepsContents a b → KeepsContents b c → KeepsContents a c
+keeps_contents_on a b c first second = record {
+  told = second.told ∙ first.told;
+  job = λ told. second.job (subst (λ (x : Bool). IsTrue x) (sym first.told) told) ∙ first.job told;
+  files = λ told table. second.files (subst (λ (x : Bool). IsTrue x) (sym first.told) told) table ∙ first.files told table;
+  faults = omega (arith, first.faults, second.faults);
 }
