@@ -1,12 +1,12 @@
 -- From what a command did, and how it was printed, to how the command ends.
-use Rattle.std.proofs.Common.{◌≡◌, inl, inr, ℕ, IsTrue, Contains, None, Result, Ok, Err, List, [], ◌∷◌, ◌++◌, length, refl, sym, subst, ◌∙◌, ap, arith}
+use Rattle.std.proofs.Common.{◌≡◌, inl, inr, ℕ, IsTrue, None, Result, Ok, Err, List, [], ◌++◌, length, refl, sym, subst, ◌∙◌, ap, arith}
 use Rattle.std.specs.Prelude.{IfErr, MatchResult}
 use Rattle.std.proofs.Math.Seq.{take-length}
 use Rattle.std.proofs.lemmas.List.{append-nil}
 use Rattle.estate.specs.Contents.{Contents}
 use Rattle.estate.specs.Printed.{Printed, AddsPart}
 use Rattle.estate.specs.World.{World}
-use Rattle.estate.proofs.Leading.{leads_start}
+use Rattle.estate.proofs.Laws.{leads_start}
 use Rattle.batch_main.specs.Answers.{printed_line}
 use Rattle.batch_main.specs.Causes.{HasFinished, LookCause, Outside, RunCause}
 use Rattle.batch_main.specs.Commits.{MayCommit, StaysUnlessFailed}

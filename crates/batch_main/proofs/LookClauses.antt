@@ -8,7 +8,7 @@ use Rattle.estate.specs.Contents.{Contents}
 use Rattle.estate.specs.Printed.{Printed}
 use Rattle.job_json.specs.declared.job.Job.{Job}
 use Rattle.batch_main.specs.Causes.{HasFault, LookCause, Outside}
-use Rattle.batch_main.specs.Jobs.{IsAccepted, fault_of}
+use Rattle.batch_main.specs.Jobs.{IsAccepted}
 use Rattle.batch_main.specs.Orders.{view_of}
 use Rattle.batch_main.specs.Outcomes.{LookOutcome}
 use Rattle.batch_main.specs.Printing.{Prints}

@@ -1,5 +1,5 @@
 -- Why each answer comes. Each fact on content holds where the object that it speaks of tells its content.
-use Rattle.std.specs.Prelude.{◌≡◌, ◌⊎◌, ⊤, ℕ, IsTrue, IsOk, IsSome, List, Option, Some, None, Result, Ok, Err}
+use Rattle.std.specs.Prelude.{◌≡◌, ◌⊎◌, ⊤, ℕ, IsTrue, IsOk, IsSome, List, Option, Some, None, Result, Err}
 use Rattle.estate.specs.Changes.{Rose}
 use Rattle.estate.specs.Contents.{Contents}
 use Rattle.estate.specs.Holding.{job_under}

@@ -5,8 +5,8 @@ use Rattle.estate.specs.World.{World}
 use Rattle.estate.specs.declared.estate_error.EstateError.{EstateError}
 use Rattle.estate.specs.declared.estate_error.EstateError.TheVariants as estate
 use Rattle.estate.specs.declared.commit.Commit.{Commit}
-use Rattle.estate.proofs.ContentsKept.{keeps_contents_on}
-use Rattle.estate.proofs.Leading.{leads_after, leads_stays, rose_later, told_on}
+use Rattle.estate.proofs.Laws.{keeps_contents_on}
+use Rattle.estate.proofs.Laws.{leads_after, leads_stays, rose_later, told_on}
 use Rattle.batch_main.specs.Answers.{printed_line}
 use Rattle.batch_main.specs.declared.answer.Answer.TheVariants.{Finished}
 use Rattle.batch_main.specs.Commits.{StaysUnlessFailed}

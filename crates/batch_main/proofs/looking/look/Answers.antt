@@ -1,6 +1,6 @@
 use Rattle.std.proofs.Common.{map, sym, subst}
 use Rattle.std.specs.Prelude.{string_bytes}
-use Rattle.estate.proofs.Leading.{leads_start}
+use Rattle.estate.proofs.Laws.{leads_start}
 use Rattle.batch_main.specs.Causes.{outside}
 use Rattle.batch_main.specs.Orders.{view_of}
 use Rattle.batch_main.specs.Outcomes.{LookOutcome}

@@ -1,7 +1,7 @@
 use Rattle.std.proofs.Common.{map}
 use Rattle.std.specs.Prelude.{string_bytes}
 use Rattle.batch_main.specs.Causes.{outside}
-use Rattle.batch_main.proofs.Ends.{run_ends, run_memory}
+use Rattle.batch_main.proofs.Ends.{run_ends}
 use Rattle.batch_main.proofs.running.run_answer.Goals as goal
 
 pub returns : goal.returns

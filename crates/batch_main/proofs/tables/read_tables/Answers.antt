@@ -1,5 +1,5 @@
 use Rattle.std.proofs.Common.{◌≡◌, ◌∙◌, length}
-use Rattle.estate.proofs.ContentsKept.{keeps_contents_on}
+use Rattle.estate.proofs.Laws.{keeps_contents_on}
 use Rattle.batch_main.specs.declared.listed_table.ListedTable.{ListedTable}
 use Rattle.batch_main.proofs.OwnTables.{all_rest, read_more, steady_ok}
 use Rattle.batch_main.proofs.tables.read_tables.Goals as goal
