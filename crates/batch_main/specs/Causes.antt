@@ -49,16 +49,21 @@ pub record HasFinished (inputs : Contents) (old new : World) (line : List ℕ) :
 
 -- Why a run answers so. `refused` is why its words are refused, and `line` is printed of a job that is committed.
 abbrev pub RunCause : Option WordRefusal → List ℕ → Outside → Outside → Answer → Type 0
-RunCause refused line old new Finished = (refused ≡ None) × HasFinished old.inputs old.estate new.estate line
-RunCause refused line old new PrintFault = (refused ≡ None) × HasFinished old.inputs old.estate new.estate line
+RunCause refused line old new Finished =
+    (refused ≡ None) × HasFinished old.inputs old.estate new.estate line
+RunCause refused line old new PrintFault =
+    (refused ≡ None) × HasFinished old.inputs old.estate new.estate line
 RunCause refused line old new (Usage at kind) = refused ≡ Some (words.Usage at kind)
 RunCause refused line old new (JobRefused kind at name) =
     (refused ≡ None) × HasFault old.inputs (record { kind = kind; node = at; name = name })
 RunCause refused line old new SinkFault =
-    (refused ≡ None) × Rose old.estate.counts.sink_faults new.estate.counts.sink_faults × IsJob old.inputs
-RunCause refused line old new InputFault = (refused ≡ None) × Rose old.inputs.faults new.inputs.faults
+    (refused ≡ None) × Rose old.estate.counts.sink_faults new.estate.counts.sink_faults
+    × IsJob old.inputs
+RunCause refused line old new InputFault =
+    (refused ≡ None) × Rose old.inputs.faults new.inputs.faults
 RunCause refused line old new (NotBuilt what) =
-    (refused ≡ Some (words.NotBuilt what)) ⊎ ((refused ≡ None) × (what ≡ unbuilt.Commit) × IsTaken old.inputs old.estate)
+    (refused ≡ Some (words.NotBuilt what))
+    ⊎ ((refused ≡ None) × (what ≡ unbuilt.Commit) × IsTaken old.inputs old.estate)
 RunCause refused line old new NoMemory = ⊤
 RunCause refused line old new Shown = ⊥
 

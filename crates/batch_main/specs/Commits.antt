@@ -54,7 +54,8 @@ pub record MayCommit (inputs : Contents) (old new : World) : Type 0 where
 -- The estate is as it was, but where the sink failed: that is the answer then, or that memory ran out for its line.
 abbrev pub StaysUnlessFailed : World → World → Answer → Type 0
 StaysUnlessFailed old new answer = Leads Stays old new
-    ⊎ (Contains (SinkFault ∷ NoMemory ∷ []) answer × Rose old.counts.sink_faults new.counts.sink_faults)
+    ⊎ (Contains (SinkFault ∷ NoMemory ∷ []) answer
+    × Rose old.counts.sink_faults new.counts.sink_faults)
 
 -- inputs and estate are told, and the name of the inputs' job has a commit
 pub record NameTaken (inputs : Contents) (old : World) : Type 0 where

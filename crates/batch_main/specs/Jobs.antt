@@ -32,4 +32,5 @@ IsRefusalOf text NoMemory = ⊤
 
 -- the job that was read
 abbrev pub job_of : AcceptedJob → Job
-job_of accepted = record { name = accepted.name; plan = accepted.plan; settings = accepted.settings }
+job_of accepted =
+    record { name = accepted.name; plan = accepted.plan; settings = accepted.settings }

@@ -48,4 +48,6 @@ view_of words = order_view (meaning words)
 -- the first word is a command that only shows something
 abbrev pub is_view : List (List ℕ) → Bool
 is_view [] = false
-is_view (word ∷ words) = bytes_eq word (codes "check") || bytes_eq word (codes "plan") || bytes_eq word (codes "reference") || bytes_eq word (codes "events")
+is_view (word ∷ words) =
+    bytes_eq word (codes "check") || bytes_eq word (codes "plan")
+    || bytes_eq word (codes "reference") || bytes_eq word (codes "events")

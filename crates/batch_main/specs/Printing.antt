@@ -10,11 +10,13 @@ use Rattle.batch_main.specs.declared.refusal.Refusal.{Refusal}
 
 -- these bytes were added, and printing did not fail
 abbrev pub AddsAll : List ℕ → Printed → Printed → Type 0
-AddsAll bytes old new = (IsTrue old.told → new.bytes ≡ old.bytes ++ bytes) × (new.faults ≡ old.faults)
+AddsAll bytes old new =
+    (IsTrue old.told → new.bytes ≡ old.bytes ++ bytes) × (new.faults ≡ old.faults)
 
 -- printing failed, and a first part of these bytes was added
 abbrev pub FailsAt : List ℕ → Printed → Printed → Type 0
-FailsAt bytes old new = Rose old.faults new.faults × (IsTrue old.told → AddsPart bytes old.bytes new.bytes)
+FailsAt bytes old new =
+    Rose old.faults new.faults × (IsTrue old.told → AddsPart bytes old.bytes new.bytes)
 
 -- these bytes were added, or a first part of them where printing failed
 abbrev pub TriesToAdd : List ℕ → Printed → Printed → Type 0
@@ -26,11 +28,13 @@ Prints text old new Finished = AddsAll text old new
 Prints text old new Shown = AddsAll text old new
 Prints text old new PrintFault = FailsAt text old new
 Prints text old new (Usage at kind) = TriesToAdd (printed_line [] (Usage at kind)) old new
-Prints text old new (JobRefused kind at name) = TriesToAdd (printed_line [] (JobRefused kind at name)) old new
+Prints text old new (JobRefused kind at name) =
+    TriesToAdd (printed_line [] (JobRefused kind at name)) old new
 Prints text old new SinkFault = TriesToAdd (printed_line [] SinkFault) old new
 Prints text old new InputFault = TriesToAdd (printed_line [] InputFault) old new
 Prints text old new (NotBuilt what) = TriesToAdd (printed_line [] (NotBuilt what)) old new
-Prints text old new NoMemory = IsTrue old.told → AddsPart (printed_line [] NoMemory) old.bytes new.bytes
+Prints text old new NoMemory =
+    IsTrue old.told → AddsPart (printed_line [] NoMemory) old.bytes new.bytes
 
 -- the answer to a refusal, whose line was printed, or that for want of memory where there was none for it
 abbrev pub PrintsRefusal : Answer → Printed → Printed → Answer → Type 0

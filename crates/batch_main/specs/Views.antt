@@ -18,7 +18,8 @@ view_text Reference files job = committed_text files job.plan
 
 -- the text is what is to be seen of the inputs' job
 abbrev pub Shows : View → Contents → List ℕ → Type 0
-Shows view inputs text = IsTrue inputs.told → (job : Job) × IsAccepted inputs.job job × (text ≡ view_text view inputs.files job)
+Shows view inputs text = IsTrue inputs.told →
+    (job : Job) × IsAccepted inputs.job job × (text ≡ view_text view inputs.files job)
 
 -- the words ask for something to see, and the text is that
 abbrev pub ShowsAsked : Result View WordRefusal → Contents → List ℕ → Type 0

@@ -28,7 +28,8 @@ pub fn commit_job<E: Estate, I: Inputs>(
     ensures stays { IfErr result (λ refusal.
         StaysUnlessFailed (E.world estate.old) (E.world estate.new) (answer_to refusal)) }
     ensures keeps { KeepsContents (I.contents inputs.old) (I.contents inputs.new) }
-    ensures input_met { IsMet Refusal.InputFault (I.contents inputs.old).faults (I.contents inputs.new).faults result }
+    ensures input_met { IsMet Refusal.InputFault
+        (I.contents inputs.old).faults (I.contents inputs.new).faults result }
     ensures sink_met { IsMet Refusal.SinkFault (E.world estate.old).counts.sink_faults
         (E.world estate.new).counts.sink_faults result }
     ensures adds { MayCommit (I.contents inputs.old) (E.world estate.old) (E.world estate.new) }

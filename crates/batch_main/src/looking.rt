@@ -39,13 +39,13 @@ pub fn look<E: Estate, I: Inputs, P: Printer>(
     ensures writes_nothing { Leads Stays (E.world estate.old) (E.world estate.new) }
 
     // Where it answers Shown, exactly the text was printed that the words ask for.
-    ensures shown { result.answer ≡ Answer.Shown → IsTrue (P.printed printer.old).told → (text : List ℕ)
-        × ShowsAsked (view_of (map string_bytes words.now)) (I.contents inputs.old) text
+    ensures shown { result.answer ≡ Answer.Shown → IsTrue (P.printed printer.old).told →
+        (text : List ℕ) × ShowsAsked (view_of (map string_bytes words.now)) (I.contents inputs.old) text
         × ((P.printed printer.new).bytes ≡ (P.printed printer.old).bytes ++ text) }
 
     // An accepted job is shown, where nothing fails and memory suffices.
-    ensures completes { IsOk (view_of (map string_bytes words.now)) → IsTrue (I.contents inputs.old).told
-        → (job : Job) → IsAccepted (I.contents inputs.old).job job
+    ensures completes { IsOk (view_of (map string_bytes words.now))
+        → IsTrue (I.contents inputs.old).told → (job : Job) → IsAccepted (I.contents inputs.old).job job
         → ¬ (Rose (I.contents inputs.old).faults (I.contents inputs.new).faults)
         → ¬ (Rose (P.printed printer.old).faults (P.printed printer.new).faults)
         → Contains (Answer.Shown ∷ Answer.NoMemory ∷ []) result.answer }
@@ -81,7 +81,8 @@ pub fn look<E: Estate, I: Inputs, P: Printer>(
 
     // All of it at once, with the cause of each answer; it never answers Finished or a fault of the sink.
     ensures outcome { LookOutcome (map string_bytes words.now)
-        (outside (I.contents inputs.old) (E.world estate.old)) (outside (I.contents inputs.new) (E.world estate.new))
+        (outside (I.contents inputs.old) (E.world estate.old))
+        (outside (I.contents inputs.new) (E.world estate.new))
         (P.printed printer.old) (P.printed printer.new) result.answer }
 
     ensures status { result.status ≡ status_of result.answer }
@@ -97,9 +98,11 @@ fn look_answer<I: Inputs, P: Printer>(
     printer: &mut P,
 ) -> Answer
     ensures shows { (text : List ℕ)
-        × LookCause (view_of (map string_bytes words.now)) text (I.contents inputs.old) (I.contents inputs.new) result
+        × LookCause (view_of (map string_bytes words.now)) text
+        (I.contents inputs.old) (I.contents inputs.new) result
         × Prints text (P.printed printer.old) (P.printed printer.new) result }
-    ensures met { IsAnswered Answer.InputFault (I.contents inputs.old).faults (I.contents inputs.new).faults result }
+    ensures met { IsAnswered Answer.InputFault
+        (I.contents inputs.old).faults (I.contents inputs.new).faults result }
 {
     let Ok(no_memory) = answer_line(alloc, &[], &Answer::NoMemory) else {
         return Answer::NoMemory;
@@ -114,7 +117,8 @@ fn asked_text<I: Inputs>(alloc: Global, words: &[String], inputs: &mut I) -> Res
         (ShowsAsked (view_of (map string_bytes words.now)) (I.contents inputs.old))
         (λ refusal. LookCause (view_of (map string_bytes words.now)) []
         (I.contents inputs.old) (I.contents inputs.new) (answer_to refusal)) }
-    ensures met { IsMet Refusal.InputFault (I.contents inputs.old).faults (I.contents inputs.new).faults result }
+    ensures met { IsMet Refusal.InputFault
+        (I.contents inputs.old).faults (I.contents inputs.new).faults result }
 {
     let view = read_view(words)?;
     view_text(alloc, view, inputs)

@@ -65,23 +65,24 @@ pub fn run<E: Estate, I: Inputs, P: Printer, C: Clock, G: Gate>(
     ensures usage { (at : ℕ) (kind : WordKind) → result.answer ≡ Answer.Usage at kind
         → run_refusal (map string_bytes words.now) ≡ Some (words_refused.Usage at kind) }
     ensures unbuilt { (what : Unbuilt) → result.answer ≡ Answer.NotBuilt what
-        → (what ≡ unbuilt.Commit) ⊎ (run_refusal (map string_bytes words.now) ≡ Some (words_refused.NotBuilt what)) }
+        → (what ≡ unbuilt.Commit)
+        ⊎ (run_refusal (map string_bytes words.now) ≡ Some (words_refused.NotBuilt what)) }
 
     // A job is refused exactly where its text, or its plan, has a fault, and for the first.
     ensures refused { (kind : RefusedKind) (node : Option ℕ) (name : Option (List ℕ))
         → result.answer ≡ Answer.JobRefused kind node name
         → HasFault (I.contents inputs.old) (record { kind = kind; node = node; name = name }) }
-    ensures refused_always { IsNone (run_refusal (map string_bytes words.now)) → (fault : JobRefusal)
-        → IsTrue (I.contents inputs.old).told → HasFault (I.contents inputs.old) fault
+    ensures refused_always { IsNone (run_refusal (map string_bytes words.now))
+        → (fault : JobRefusal) → IsTrue (I.contents inputs.old).told → HasFault (I.contents inputs.old) fault
         → Contains (job_answer fault ∷ Answer.InputFault ∷ Answer.NoMemory ∷ []) result.answer }
 
     // `not-built commit` exactly where the sink has a commit under the job's name.
-    ensures taken { result.answer ≡ Answer.NotBuilt unbuilt.Commit →
+    ensures id_taken { result.answer ≡ Answer.NotBuilt unbuilt.Commit →
         IsTaken (I.contents inputs.old) (E.world estate.old) }
-    ensures taken_refused { IsNone (run_refusal (map string_bytes words.now))
+    ensures id_taken_always { IsNone (run_refusal (map string_bytes words.now))
         → NameTaken (I.contents inputs.old) (E.world estate.old)
-        → Contains (Answer.NotBuilt unbuilt.Commit ∷ Answer.InputFault ∷ Answer.SinkFault ∷ Answer.NoMemory ∷ [])
-        result.answer }
+        → Contains (Answer.NotBuilt unbuilt.Commit ∷ Answer.InputFault ∷ Answer.SinkFault
+        ∷ Answer.NoMemory ∷ []) result.answer }
 
     // A fault is answered only where the count of its own object rose in this call.
     ensures input_fault { result.answer ≡ Answer.InputFault →
@@ -98,13 +99,15 @@ pub fn run<E: Estate, I: Inputs, P: Printer, C: Clock, G: Gate>(
     ensures input_met { IsAnswered Answer.InputFault
         (I.contents inputs.old).faults (I.contents inputs.new).faults result.answer }
     ensures sink_met { IsAnswered Answer.SinkFault
-        (E.world estate.old).counts.sink_faults (E.world estate.new).counts.sink_faults result.answer }
+        (E.world estate.old).counts.sink_faults (E.world estate.new).counts.sink_faults
+        result.answer }
     ensures print_met { result.answer ≡ Answer.Finished →
         (P.printed printer.new).faults ≡ (P.printed printer.old).faults }
 
     // All of it at once, with the cause of each answer and what was printed.
     ensures outcome { RunOutcome (map string_bytes words.now)
-        (outside (I.contents inputs.old) (E.world estate.old)) (outside (I.contents inputs.new) (E.world estate.new))
+        (outside (I.contents inputs.old) (E.world estate.old))
+        (outside (I.contents inputs.new) (E.world estate.new))
         (P.printed printer.old) (P.printed printer.new) result.answer }
 
     ensures status { result.status ≡ status_of result.answer }
@@ -121,7 +124,8 @@ fn run_answer<E: Estate, I: Inputs, P: Printer>(
     printer: &mut P,
 ) -> Answer
     ensures { RunOutcome (map string_bytes words.now)
-        (outside (I.contents inputs.old) (E.world estate.old)) (outside (I.contents inputs.new) (E.world estate.new))
+        (outside (I.contents inputs.old) (E.world estate.old))
+        (outside (I.contents inputs.new) (E.world estate.new))
         (P.printed printer.old) (P.printed printer.new) result }
 {
     let Ok(no_memory) = answer_line(alloc, &[], &Answer::NoMemory) else {
@@ -147,7 +151,8 @@ fn run_line<E: Estate, I: Inputs>(
     ensures stays { IfErr result (λ refusal.
         StaysUnlessFailed (E.world estate.old) (E.world estate.new) (answer_to refusal)) }
     ensures adds { MayCommit (I.contents inputs.old) (E.world estate.old) (E.world estate.new) }
-    ensures input_met { IsMet Refusal.InputFault (I.contents inputs.old).faults (I.contents inputs.new).faults result }
+    ensures input_met { IsMet Refusal.InputFault
+        (I.contents inputs.old).faults (I.contents inputs.new).faults result }
     ensures sink_met { IsMet Refusal.SinkFault (E.world estate.old).counts.sink_faults
         (E.world estate.new).counts.sink_faults result }
 {

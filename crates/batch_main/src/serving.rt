@@ -20,11 +20,15 @@ pub fn serve<E: Estate, I: Inputs, P: Printer, C: Clock, G: Gate>(
     clock: &mut C,
     gate: &G,
 ) -> Outcome
-    ensures looks { IsTrue (is_view (map string_bytes words.now)) → LookOutcome (map string_bytes words.now)
-        (outside (I.contents inputs.old) (E.world estate.old)) (outside (I.contents inputs.new) (E.world estate.new))
+    ensures looks { IsTrue (is_view (map string_bytes words.now)) →
+        LookOutcome (map string_bytes words.now)
+        (outside (I.contents inputs.old) (E.world estate.old))
+        (outside (I.contents inputs.new) (E.world estate.new))
         (P.printed printer.old) (P.printed printer.new) result.answer }
-    ensures runs { is_view (map string_bytes words.now) ≡ false → RunOutcome (map string_bytes words.now)
-        (outside (I.contents inputs.old) (E.world estate.old)) (outside (I.contents inputs.new) (E.world estate.new))
+    ensures runs { is_view (map string_bytes words.now) ≡ false →
+        RunOutcome (map string_bytes words.now)
+        (outside (I.contents inputs.old) (E.world estate.old))
+        (outside (I.contents inputs.new) (E.world estate.new))
         (P.printed printer.old) (P.printed printer.new) result.answer }
     ensures status { result.status ≡ status_of result.answer }
 {

@@ -1,9 +1,7 @@
-ghost use Rattle.std.specs.Prelude.{◌≡◌, length, map, All, IsTrue, IfOk};
-ghost use Rattle.estate.specs.Changes.{InputCause, InputSteady};
-ghost use Rattle.estate.specs.Contents.{KeepsContents};
+ghost use Rattle.std.specs.Prelude.{◌≡◌, length, map, IsTrue, IfOk};
 ghost use Rattle.plan_model.specs.Plans.{committed_text};
 ghost use Rattle.plan_model.specs.TableNames.{tables_of};
-ghost use Rattle.batch_main.specs.Tables.{listed, with_files};
+ghost use Rattle.batch_main.specs.Tables.{AreListed, Reads, listed, with_files};
 
 use crate::listed_table::ListedTable;
 use estate::{InputError, Inputs};
@@ -18,11 +16,9 @@ pub fn list_tables<I: Inputs>(
     inputs: &mut I,
     plan: &GoodPlan,
 ) -> Result<Vec<ListedTable>, InputError>
-    ensures keeps { KeepsContents (I.contents inputs.old) (I.contents inputs.new) }
+    ensures reads { Reads (I.contents inputs.old) (I.contents inputs.new) result }
     ensures tables { IfOk result (λ tables. IsTrue (I.contents inputs.old).told →
         tables.items ≡ listed (I.contents inputs.old).files (tables_of plan.now)) }
-    ensures cause { InputCause (I.contents inputs.old).faults (I.contents inputs.new).faults result }
-    ensures steady { InputSteady (I.contents inputs.old).faults (I.contents inputs.new).faults result }
 {
     let names = tables_of(alloc, plan.plan())?;
     list_each(alloc, inputs, names.into_vec())
@@ -37,11 +33,9 @@ pub fn text_over<I: Inputs>(
 ) -> Result<Bytes, InputError>
     requires { IsTrue (I.contents inputs.old).told →
         tables.items ≡ listed (I.contents inputs.old).files (tables_of plan.now) }
-    ensures keeps { KeepsContents (I.contents inputs.old) (I.contents inputs.new) }
+    ensures reads { Reads (I.contents inputs.old) (I.contents inputs.new) result }
     ensures text { IfOk result (λ text. IsTrue (I.contents inputs.old).told →
         text ≡ committed_text (I.contents inputs.old).files plan.now) }
-    ensures cause { InputCause (I.contents inputs.old).faults (I.contents inputs.new).faults result }
-    ensures steady { InputSteady (I.contents inputs.old).faults (I.contents inputs.new).faults result }
 {
     let tables = read_tables(alloc, inputs, tables)?;
     Ok(answer(alloc, plan, &tables)?)
@@ -52,11 +46,9 @@ fn list_each<I: Inputs>(
     inputs: &mut I,
     names: Vec<Bytes>,
 ) -> Result<Vec<ListedTable>, InputError>
-    ensures keeps { KeepsContents (I.contents inputs.old) (I.contents inputs.new) }
+    ensures reads { Reads (I.contents inputs.old) (I.contents inputs.new) result }
     ensures tables { IfOk result (λ tables. IsTrue (I.contents inputs.old).told →
         tables.items ≡ listed (I.contents inputs.old).files names.items) }
-    ensures cause { InputCause (I.contents inputs.old).faults (I.contents inputs.new).faults result }
-    ensures steady { InputSteady (I.contents inputs.old).faults (I.contents inputs.new).faults result }
 {
     let mut tables = Vec::with_capacity(alloc, names.len())?;
     for table in names {
@@ -68,11 +60,9 @@ fn list_each<I: Inputs>(
 
 // How many files a table has. More than 2^32 - 1 are not numbered, which is want of memory.
 fn file_count<I: Inputs>(inputs: &mut I, table: &Bytes) -> Result<u32, InputError>
-    ensures keeps { KeepsContents (I.contents inputs.old) (I.contents inputs.new) }
+    ensures reads { Reads (I.contents inputs.old) (I.contents inputs.new) result }
     ensures count { IfOk result (λ files. IsTrue (I.contents inputs.old).told →
         length ((I.contents inputs.old).files table.now) ≡ files) }
-    ensures cause { InputCause (I.contents inputs.old).faults (I.contents inputs.new).faults result }
-    ensures steady { InputSteady (I.contents inputs.old).faults (I.contents inputs.new).faults result }
 {
     let sizes = inputs.file_sizes(table)?;
     match u32::try_from(sizes.as_slice().len()) {
@@ -87,12 +77,10 @@ fn read_tables<I: Inputs>(
     tables: Vec<ListedTable>,
 ) -> Result<TableRows, InputError>
     requires { IsTrue (I.contents inputs.old).told →
-        All (λ table. table.files ≡ length ((I.contents inputs.old).files table.table)) tables.items }
-    ensures keeps { KeepsContents (I.contents inputs.old) (I.contents inputs.new) }
+        AreListed (I.contents inputs.old).files tables.items }
+    ensures reads { Reads (I.contents inputs.old) (I.contents inputs.new) result }
     ensures tables { IfOk result (λ rows. IsTrue (I.contents inputs.old).told →
         rows ≡ with_files (I.contents inputs.old).files (map (λ table. table.table) tables.items)) }
-    ensures cause { InputCause (I.contents inputs.old).faults (I.contents inputs.new).faults result }
-    ensures steady { InputSteady (I.contents inputs.old).faults (I.contents inputs.new).faults result }
 {
     let mut made = Vec::with_capacity(alloc, tables.len())?;
     for table in tables {
@@ -108,11 +96,9 @@ fn read_table<I: Inputs>(
 ) -> Result<TableFiles, InputError>
     requires { IsTrue (I.contents inputs.old).told →
         table.files ≡ length ((I.contents inputs.old).files table.table) }
-    ensures keeps { KeepsContents (I.contents inputs.old) (I.contents inputs.new) }
+    ensures reads { Reads (I.contents inputs.old) (I.contents inputs.new) result }
     ensures files { IfOk result (λ made. IsTrue (I.contents inputs.old).told →
         made ≡ record { table = table.table; rows = (I.contents inputs.old).files table.table }) }
-    ensures cause { InputCause (I.contents inputs.old).faults (I.contents inputs.new).faults result }
-    ensures steady { InputSteady (I.contents inputs.old).faults (I.contents inputs.new).faults result }
 {
     let rows = read_files(alloc, inputs, &table.table, table.files)?;
     Ok(TableFiles {
@@ -129,11 +115,9 @@ fn read_files<I: Inputs>(
 ) -> Result<Files, InputError>
     requires { IsTrue (I.contents inputs.old).told →
         files ≡ length ((I.contents inputs.old).files table.now) }
-    ensures keeps { KeepsContents (I.contents inputs.old) (I.contents inputs.new) }
+    ensures reads { Reads (I.contents inputs.old) (I.contents inputs.new) result }
     ensures files { IfOk result (λ made. IsTrue (I.contents inputs.old).told →
         made ≡ (I.contents inputs.old).files table.now) }
-    ensures cause { InputCause (I.contents inputs.old).faults (I.contents inputs.new).faults result }
-    ensures steady { InputSteady (I.contents inputs.old).faults (I.contents inputs.new).faults result }
 {
     let mut made = Vec::new(alloc);
     for file in 0..files {

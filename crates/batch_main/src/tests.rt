@@ -175,8 +175,8 @@ fn serves_its_commands(rt: HostRuntime) -> Result<(), Fail> {
         let words = words_of(alloc, line)?;
         let given = over(job.as_bytes(), tables);
         let (status, printed) = serve_words(alloc, words.as_slice(), &mut estate, given)?;
-        assert_eq!(rt; status, 0);
-        assert_eq!(rt; printed.as_slice(), shown.as_bytes());
+        assert_eq!(rt; status, 0, "{line}");
+        assert_eq!(rt; printed.as_slice(), shown.as_bytes(), "{line}");
         assert_eq!(rt;
             first_text(alloc, &estate)?.as_slice(),
             committed.as_bytes()
@@ -199,15 +199,12 @@ fn commits_the_job_as_it_is_printed(rt: HostRuntime) -> Result<(), Fail> {
     Ok(())
 }
 
-// A line of words over a job, the numbers of the calls that fail, and the status, the line and the number of commits.
-type Refused<'a> = (&'a str, Given<'a>, u8, &'a str, usize);
-
 // Each refusal's line, as it is printed.
 #[test]
 fn refuses_with_a_line(rt: HostRuntime) -> Result<(), Fail> {
     let alloc = rt.alloc();
     let none = over(JOB.as_bytes(), ORDERS);
-    let cases: [Refused<'_>; 15] = [
+    let cases: [(&str, Given<'_>, u8, &str, usize); 15] = [
         ("", none, 1, "usage at=0 unknown-command\n", 0),
         ("run run run", none, 1, "usage at=1 unknown-word\n", 0),
         ("run --workers 65", none, 1, "usage at=2 bad-number\n", 0),
@@ -288,8 +285,8 @@ fn refuses_with_a_line(rt: HostRuntime) -> Result<(), Fail> {
         let mut estate = new_estate(alloc, given.estate)?;
         let words = words_of(alloc, line)?;
         let (status, printed) = serve_words(alloc, words.as_slice(), &mut estate, given)?;
-        assert_eq!(rt; status, wanted);
-        assert_eq!(rt; printed.as_slice(), told.as_bytes());
+        assert_eq!(rt; status, wanted, "{line}");
+        assert_eq!(rt; printed.as_slice(), told.as_bytes(), "{line}");
         assert_eq!(rt; estate.commits()?.as_slice().len(), wanted_commits);
     }
     Ok(())
@@ -321,7 +318,7 @@ fn reads_no_more_than_it_needs(rt: HostRuntime) -> Result<(), Fail> {
     for (line, given, told) in cases {
         let words = words_of(alloc, line)?;
         let (_, printed) = serve_words(alloc, words.as_slice(), &mut estate, given)?;
-        assert_eq!(rt; printed.as_slice(), told.as_bytes());
+        assert_eq!(rt; printed.as_slice(), told.as_bytes(), "{line}");
     }
     assert_eq!(rt; estate.commits()?.as_slice().len(), 1);
     Ok(())

@@ -19,9 +19,11 @@ use std::alloc::Global;
 pub fn view_text<I: Inputs>(alloc: Global, view: View, inputs: &mut I) -> Result<Bytes, Refusal>
     ensures why { MatchResult result
         (Shows view (I.contents inputs.old))
-        (λ refusal. LookCause (Ok view) [] (I.contents inputs.old) (I.contents inputs.new) (answer_to refusal)) }
+        (λ refusal. LookCause (Ok view) []
+        (I.contents inputs.old) (I.contents inputs.new) (answer_to refusal)) }
     ensures keeps { KeepsContents (I.contents inputs.old) (I.contents inputs.new) }
-    ensures met { IsMet Refusal.InputFault (I.contents inputs.old).faults (I.contents inputs.new).faults result }
+    ensures met { IsMet Refusal.InputFault
+        (I.contents inputs.old).faults (I.contents inputs.new).faults result }
 {
     let text = inputs.job_text()?;
     let job = read_accepted_job(alloc, &text)?;

@@ -25,7 +25,7 @@ pub returns-in_err-sink_commit-clause-adds : goal.returns-in_err-sink_commit-cla
 returns-in_err-sink_commit-clause-adds g c =
     let contents = g.I.Inputs.contents in
     let law = g.met.E.Estate.lawful in
-    let keeps = keeps_contents_on (contents c.args.inputs.now) (contents c.job_text.new.self) (contents c.list_tables.new.inputs) c.job_text.ensures.keeps c.list_tables.ensures.keeps in
+    let keeps = keeps_contents_on (contents c.args.inputs.now) (contents c.job_text.new.self) (contents c.list_tables.new.inputs) c.job_text.ensures.keeps c.list_tables.ensures.reads.keeps in
     record {
       commit = Some (record { id = c.in_ok-job.job.name; job = c.in_ok-job.job.text; text = c.in_ok-committed.committed });
       is = is_commit_of (contents c.args.inputs.now) (contents c.list_tables.new.inputs) keeps c.in_ok-text.text c.in_ok-text.ensures.text c.in_ok-job.job c.in_ok-job.ensures.accepted
@@ -38,7 +38,7 @@ pub returns-clause-adds : goal.returns-clause-adds
 returns-clause-adds g c =
     let contents = g.I.Inputs.contents in
     let law = g.met.E.Estate.lawful in
-    let keeps = keeps_contents_on (contents c.args.inputs.now) (contents c.job_text.new.self) (contents c.list_tables.new.inputs) c.job_text.ensures.keeps c.list_tables.ensures.keeps in
+    let keeps = keeps_contents_on (contents c.args.inputs.now) (contents c.job_text.new.self) (contents c.list_tables.new.inputs) c.job_text.ensures.keeps c.list_tables.ensures.reads.keeps in
     record {
       commit = Some (record { id = c.in_ok-job.job.name; job = c.in_ok-job.job.text; text = c.in_ok-committed.committed });
       is = is_commit_of (contents c.args.inputs.now) (contents c.list_tables.new.inputs) keeps c.in_ok-text.text c.in_ok-text.ensures.text c.in_ok-job.job c.in_ok-job.ensures.accepted
@@ -53,7 +53,7 @@ returns-clause-why g c =
     let world = g.E.Estate.world in
     let job = c.in_ok-job.job in
     let text = c.in_ok-text.text in
-    let keeps = keeps_contents_on (contents c.args.inputs.now) (contents c.job_text.new.self) (contents c.list_tables.new.inputs) c.job_text.ensures.keeps c.list_tables.ensures.keeps in
+    let keeps = keeps_contents_on (contents c.args.inputs.now) (contents c.job_text.new.self) (contents c.list_tables.new.inputs) c.job_text.ensures.keeps c.list_tables.ensures.reads.keeps in
     let commit : Commit = record { id = job.name; job = job.text; text = c.in_ok-committed.committed } in
     let asked = c.sink_committed.ensures.leads in
     record {

@@ -51,8 +51,8 @@ returns-clause-refused g c =
     subst (λ (a : Answer). RunOutcome words old new before after a) (sym c.new.ensures.answer) c.run_answer.ensures in
     clauses.refused_for words old new before after c.new.result.answer o
 
-pub returns-clause-taken : goal.returns-clause-taken
-returns-clause-taken g c =
+pub returns-clause-id_taken : goal.returns-clause-id_taken
+returns-clause-id_taken g c =
     let words = map string_bytes c.args.words.now in
     let old = outside (g.I.Inputs.contents c.args.inputs.now) (g.E.Estate.world c.args.estate.now) in
     let new = outside (g.I.Inputs.contents c.run_answer.new.inputs) (g.E.Estate.world c.run_answer.new.estate) in
@@ -205,8 +205,8 @@ returns-clause-refused_always g c =
     subst (λ (a : Answer). RunOutcome words old new before after a) (sym c.new.ensures.answer) c.run_answer.ensures in
     λ none fault told has. clauses.refused_always (run_refusal words) o.line old new fault c.new.result.answer o.cause (clauses.is_none (run_refusal words) none) told has
 
-pub returns-clause-taken_refused : goal.returns-clause-taken_refused
-returns-clause-taken_refused g c =
+pub returns-clause-id_taken_always : goal.returns-clause-id_taken_always
+returns-clause-id_taken_always g c =
     let words = map string_bytes c.args.words.now in
     let old = outside (g.I.Inputs.contents c.args.inputs.now) (g.E.Estate.world c.args.estate.now) in
     let new = outside (g.I.Inputs.contents c.run_answer.new.inputs) (g.E.Estate.world c.run_answer.new.estate) in
