@@ -1,4 +1,5 @@
 mod Calling
+mod Due
 mod Keeping
 pub mod Laws
 mod Losing

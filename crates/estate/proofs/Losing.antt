@@ -88,6 +88,14 @@ module _ (since : ℕ) (name : PartName) (edges : List (List (List ℕ))) (t : �
       let after = ap (λ (l : List PartName). length l) (held_in_split front (lost_part ∷ back)) in
       omega (arith, before, after, length-append (held_in front) (held_in (held_part ∷ back)), length-append (held_in front) (held_in (lost_part ∷ back)))
 
+  one_fewer_in : (q : PartName) → Contains (held_in (front ++ lost_part ∷ back)) q → Contains (held_in (front ++ held_part ∷ back)) q
+  one_fewer_in q has =
+      subst (λ (l : List PartName). Contains l q) (sym (held_in_split front (held_part ∷ back)))
+      (⊎_elim
+      (λ first. Contains-append_left (held_in front) (held_in (held_part ∷ back)) q first)
+      (λ last. Contains-append_right (held_in front) (held_in (held_part ∷ back)) q (suc last.0, omega (arith, last.1), last.2))
+      (Contains-append_cases (held_in front) (held_in (lost_part ∷ back)) q (subst (λ (l : List PartName). Contains l q) (held_in_split front (lost_part ∷ back)) has)))
+
   one_loses : LosesFrom t (front ++ held_part ∷ back) (front ++ lost_part ∷ back)
   one_loses = record {
     earlier = one_earlier;
@@ -114,6 +122,12 @@ module _ (name : PartName) (since : ℕ) (old new : List Shelved) (loses : Loses
       let before = ap (λ (l : List Shelved). length (held_in l)) was_held_part in
       let after = ap (λ (l : List Shelved). length (held_in l)) loses.is in
       omega (arith, before, after, one_count loses.part.since loses.part.name loses.part.edges since loses.front loses.back)
+
+  -- what is held was held
+  pub loses_fewer : (q : PartName) → Contains (held_in new) q → Contains (held_in old) q
+  loses_fewer q has =
+      subst (λ (l : List Shelved). Contains (held_in l) q) (sym was_held_part)
+      (one_fewer_in loses.part.since loses.part.name loses.part.edges since loses.front loses.back q (subst (λ (l : List Shelved). Contains (held_in l) q) loses.is has))
 
 -- nothing is lost
 pub loses_none : (since : ℕ) (old new : List Shelved) → new ≡ old → LosesFrom since old new

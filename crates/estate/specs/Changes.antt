@@ -13,9 +13,29 @@ use Rattle.estate.specs.World.{World}
 abbrev pub Rose : ℕ → ℕ → Type 0
 Rose before now = (before < now) ⊎ (2 ^ 64 ≤ now + 1)
 
--- a call fails only where the count of its own part rose
-abbrev pub HasCause : {T : Type 0} → ℕ → ℕ → Result T EstateError → Type 0
-HasCause before now result = IsErrOf result Failed → Rose before now
+-- a fault of the log was counted, or its count is full
+abbrev pub LogRose : World → World → Type 0
+LogRose old new = Rose old.counts.log_faults new.counts.log_faults
+
+-- the same of the shelf
+abbrev pub ShelfRose : World → World → Type 0
+ShelfRose old new = Rose old.counts.shelf_faults new.counts.shelf_faults
+
+-- the same of the sink
+abbrev pub SinkRose : World → World → Type 0
+SinkRose old new = Rose old.counts.sink_faults new.counts.sink_faults
+
+-- a call on the log fails only where it counted a fault
+abbrev pub LogCause : {T : Type 0} → World → World → Result T EstateError → Type 0
+LogCause old new result = IsErrOf result Failed → LogRose old new
+
+-- the same of a call on the shelf
+abbrev pub ShelfCause : {T : Type 0} → World → World → Result T EstateError → Type 0
+ShelfCause old new result = IsErrOf result Failed → ShelfRose old new
+
+-- the same of a call on the sink
+abbrev pub SinkCause : {T : Type 0} → World → World → Result T EstateError → Type 0
+SinkCause old new result = IsErrOf result Failed → SinkRose old new
 
 -- a call fails, or the count of its own part is as it was
 abbrev pub IsSteady : {T : Type 0} → ℕ → ℕ → Result T EstateError → Type 0
@@ -54,7 +74,8 @@ InputSteady before now result = IsErrOf result input.Failed ⊎ (now ≡ before)
 abbrev pub Holds : List ℕ → ℕ → List ℕ → List ℕ → Type 0
 Holds old at bytes new = new ≡ take at old ++ bytes ++ drop (at + length bytes) old
 
--- after a write of n bytes that is not on the disk yet: any bytes in the range and past the old end, the same elsewhere
+-- after a write of n bytes that is not on the disk yet: any bytes in the range and past the old
+-- end, the same elsewhere
 pub record Torn (at n : ℕ) (old new : List ℕ) : Type 0 where
   pub before : take (min at (length old)) new ≡ take at old
   pub after : drop (at + n) new ≡ drop (at + n) old
@@ -85,6 +106,26 @@ pub record Step (writes : List ℕ → List ℕ → Type 0) (part : Option Store
 -- nothing but that names may be gone
 abbrev pub Stays : Holding → Holding → Type 0
 Stays = Step Same None None
+
+-- these bytes are written there, and any part of them may be torn
+abbrev pub Writes : ℕ → List ℕ → Holding → Holding → Type 0
+Writes at bytes = Step (Torn at (length bytes)) None None
+
+-- this part is put, or nothing is
+abbrev pub Puts : StoredPart → Holding → Holding → Type 0
+Puts part = Step Same (Some part) None
+
+-- this commit is appended, or nothing is
+abbrev pub Appends : Commit → Holding → Holding → Type 0
+Appends commit = Step Same None (Some commit)
+
+-- this part was put, and is held
+abbrev pub HasPut : StoredPart → Holding → Holding → Type 0
+HasPut part old new = (new.ever ≡ old.ever ++ part ∷ []) × Contains new.held part.name
+
+-- this part was not put, and is not held
+abbrev pub HasNotPut : StoredPart → Holding → Holding → Type 0
+HasNotPut part old new = (new.ever ≡ old.ever) × ¬ (Contains new.held part.name)
 
 -- Counts never fall, and where a name is gone a loss was counted.
 pub record Counted (old new : Counts) : Type 0 where

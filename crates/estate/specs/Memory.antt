@@ -1,5 +1,8 @@
 -- The objects in memory, as contracts see them.
-use Rattle.std.specs.Prelude.{◌≡◌, ℕ, ◌+◌, ◌*◌, true, nat_le, length, count_by}
+use Rattle.std.specs.Prelude.{◌≡◌, ℕ, ◌+◌, ◌*◌, ◌<◌, true, nat_le, List, length, count_by}
+use Rattle.estate.specs.declared.calls.TheConstants.{MOST_CALLS}
+use Rattle.estate.specs.declared.loss.Loss.{Loss}
+use Rattle.estate.specs.Calls.{FailsAsListed, LosesDue}
 use Rattle.estate.specs.declared.mem_estate.MemEstate.{MemEstate}
 use Rattle.estate.specs.declared.mem_inputs.MemInputs.{MemInputs}
 use Rattle.estate.specs.declared.mem_printer.MemPrinter.{MemPrinter}
@@ -54,3 +57,23 @@ pub record HasEntered (old new : MemEstate) : Type 0 where
   pub drops : new.drops.items ≡ old.drops.items
   pub enters : Enters (history_of old) (history_of new) (clock_of old) (counts_of old) (counts_of new)
   pub clock : clock_of new ≡ clock_of old + 2
+
+-- the numbers of the calls of an estate that fail
+abbrev pub failing_of : MemEstate → List ℕ
+failing_of estate = estate.calls.failing.items
+
+-- the losses to come of an estate
+abbrev pub losing_of : MemEstate → List Loss
+losing_of estate = estate.losing.items
+
+-- how many calls an estate has counted, which is the number of its next
+abbrev pub calls_of : MemEstate → ℕ
+calls_of estate = estate.calls.count
+
+-- a call of an estate: it fails as listed, and while calls are counted it loses what is due
+abbrev pub IsCall : Type 0 → MemEstate → MemEstate → Type 0
+IsCall failed old new =
+    FailsAsListed failed old.calls new.calls
+    × (losing_of new ≡ losing_of old)
+    × (calls_of old < MOST_CALLS →
+    LosesDue (losing_of old) (calls_of old) (mem_world old).holding.held (mem_world new).holding.held)

@@ -1,5 +1,5 @@
 -- The names of parts, and what the cells of a stored part have.
-use Rattle.std.specs.Prelude.{◌≡◌, ◌⊎◌, ℕ, ◌<◌, Bool, ◌==◌, ◌&&◌, List, [], ◌∷◌, if◌then◌else◌, AllPairs}
+use Rattle.std.specs.Prelude.{◌≡◌, ◌⊎◌, ◌↔◌, ℕ, ◌<◌, Bool, ◌==◌, ◌&&◌, List, [], ◌∷◌, if◌then◌else◌, AllPairs, Contains, Option, MatchOption}
 use Rattle.std.specs.List.{slice_index_or}
 use Rattle.estate.specs.declared.part_name.PartName.{PartName}
 use Rattle.estate.specs.Holding.{StoredPart}
@@ -26,3 +26,12 @@ IsBefore a b =
 
 abbrev pub IsAscending : List PartName → Type 0
 IsAscending names = AllPairs IsBefore names
+
+-- the answer to a look for a cell: its bytes, or nothing where the part is not held
+abbrev pub AnswersCell : PartName → ℕ → ℕ → List StoredPart → List PartName → Option (List ℕ) → Type 0
+AnswersCell name edge cell ever held answer =
+    MatchOption answer (¬ (Contains held name)) (λ bytes. Contains held name × (bytes ≡ cell_of name edge cell ever))
+
+-- the names are those that are held, in ascending order
+abbrev pub AnswersNames : List PartName → List PartName → Type 0
+AnswersNames held names = IsAscending names × ((name : PartName) → Contains names name ↔ Contains held name)

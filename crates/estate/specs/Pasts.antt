@@ -70,10 +70,15 @@ pub record HasEnded (history : History) (now : ℕ) : Type 0 where
   pub shelf : HasHappened now history.shelf
   pub sink : All (λ entry. entry.since ≤ now) history.sink
 
+-- where a name is no longer held, a loss was counted
+abbrev pub IsCounted : List Shelved → List Shelved → ℕ → ℕ → Type 0
+IsCounted old new before now =
+    (name : PartName) → Contains (held_in old) name → Contains (held_in new) name ⊎ Rose before now
+
 -- a call begins: parts may be lost, which is counted, and nothing else
 pub record Enters (old new : History) (now : ℕ) (before after : Counts) : Type 0 where
   pub log : new.log ≡ old.log
   pub shelf : LosesFrom (now + 1) old.shelf new.shelf
   pub sink : new.sink ≡ old.sink
   pub counts : Counted before after
-  pub lost : (name : PartName) → Contains (held_in old.shelf) name → Contains (held_in new.shelf) name ⊎ Rose before.losses after.losses
+  pub lost : IsCounted old.shelf new.shelf before.losses after.losses

@@ -27,3 +27,8 @@ pub record IsWorld (world : World) : Type 0 where
   pub ever : (image : Holding) → world.images world.now image → image.ever ≡ world.holding.ever
   pub commits : (image : Holding) → world.images world.now image → image.commits ≡ world.holding.commits
   pub held : (image : Holding) → world.images world.now image → (name : PartName) → Contains image.held name → Contains world.holding.held name
+
+-- each crash now leaves the log that a read gives
+abbrev pub IsDurable : World → Type 0
+IsDurable world =
+    (image : Holding) → world.images world.now image → image.log ≡ world.holding.log

@@ -1,4 +1,4 @@
-ghost use Rattle.std.specs.Prelude.{◌≡◌, ◌↔◌, ◌+◌, ◌≤◌, ◌<◌, ◌^◌, IfOk, IsTrue, Contains, true};
+ghost use Rattle.std.specs.Prelude.{◌≡◌, ◌↔◌, ◌+◌, ◌≤◌, ◌^◌, min, IfOk, IsTrue};
 
 use crate::Numbers;
 use row_core::NoMemory;
@@ -17,6 +17,8 @@ pub struct Calls {
 }
 
 impl Calls {
+    ghost use Rattle.estate.specs.Calls.{FailsNext};
+
     pub fn new(alloc: Global, failing: &Numbers) -> Result<Self, NoMemory>
         ensures count { IfOk result (λ calls. calls.count ≡ 0) }
         ensures failing { IfOk result (λ calls. calls.failing.items ≡ failing.now) }
@@ -28,17 +30,16 @@ impl Calls {
     }
 
     pub fn is_full(&self) -> bool
-        ensures { IsTrue result ↔ (self.now.count ≡ 2 ^ 61) }
+        ensures { IsTrue result ↔ (self.now.count ≡ MOST_CALLS) }
     {
         self.count == MOST_CALLS
     }
 
     /// Counts a call, and says whether it is to fail.
     pub fn begin(&mut self) -> bool
-        ensures counted { self.old.count < 2 ^ 61 → self.new.count ≡ self.old.count + 1 }
+        ensures count { self.new.count ≡ min (self.old.count + 1) MOST_CALLS }
         ensures failing { self.new.failing.items ≡ self.old.failing.items }
-        ensures fails { self.old.count < 2 ^ 61 → (IsTrue result ↔ Contains self.old.failing.items self.old.count) }
-        ensures full { self.old.count ≡ 2 ^ 61 → result ≡ true }
+        ensures fails { IsTrue result ↔ FailsNext self.old }
     {
         if self.is_full() {
             return true;

@@ -1,11 +1,10 @@
 // Clauses on content hold where the estate tells what it holds. Every clause on time and crashes is one relation, `Leads`.
-ghost use Rattle.std.specs.Prelude.{◌≡◌, ◌≢◌, ◌⊎◌, ◌↔◌, ◌+◌, ◌≤◌, [], ◌∷◌, ◌++◌, List, ℕ, length, take, drop, Some, None, IsTrue, Contains, IfOk, OnOk, IsErrOf, MatchOption};
+ghost use Rattle.std.specs.Prelude.{◌≡◌, ◌⊎◌, ◌+◌, ◌≤◌, [], ◌∷◌, ◌++◌, length, take, drop, IsTrue, IfOk, OnOk, IsErrOf};
 ghost use Rattle.estate.specs.declared.estate_error.EstateError.TheVariants.{NoMemory};
-ghost use Rattle.estate.specs.Holding.{Holding, StoredPart, Counts, job_under};
-ghost use Rattle.estate.specs.declared.commit.Commit.{Commit};
-ghost use Rattle.estate.specs.Parts.{cell_of, IsAscending};
-ghost use Rattle.estate.specs.World.{World, IsWorld};
-ghost use Rattle.estate.specs.Changes.{Step, Stays, Leads, Torn, Same, Holds, HasCause, LogSteady, ShelfSteady, SinkSteady};
+ghost use Rattle.estate.specs.Holding.{part_of, commit_of, IsFresh, job_under};
+ghost use Rattle.estate.specs.Parts.{AnswersCell, AnswersNames};
+ghost use Rattle.estate.specs.World.{World, IsWorld, IsDurable};
+ghost use Rattle.estate.specs.Changes.{Stays, Leads, Writes, Puts, Appends, Holds, HasPut, HasNotPut, LogCause, ShelfCause, SinkCause, LogSteady, ShelfSteady, SinkSteady};
 
 use crate::{Edges, EstateError, Names, PartName};
 use row_core::Bytes;
@@ -18,48 +17,49 @@ pub trait Estate {
     /// The length of the log.
     fn log_len(&mut self) -> Result<u64, EstateError>
         ensures leads { Leads Stays (world self.old) (world self.new) }
-        ensures len { IfOk result (λ len. IsTrue (world self.old).told → len ≡ length (world self.old).holding.log) }
-        ensures cause { HasCause (world self.old).counts.log_faults (world self.new).counts.log_faults result }
+        ensures len { IfOk result (λ len. IsTrue (world self.old).told →
+            len ≡ length (world self.old).holding.log) }
+        ensures cause { LogCause (world self.old) (world self.new) result }
         ensures steady { LogSteady (world self.old) (world self.new) result };
 
     /// These bytes of the log.
     fn log_read(&mut self, at: u64, len: u64) -> Result<Bytes, EstateError>
         requires { IsTrue (world self.old).told → at + len ≤ length (world self.old).holding.log }
         ensures leads { Leads Stays (world self.old) (world self.new) }
-        ensures bytes { IfOk result (λ bytes. IsTrue (world self.old).told → bytes ≡ take len (drop at (world self.old).holding.log)) }
-        ensures cause { HasCause (world self.old).counts.log_faults (world self.new).counts.log_faults result }
+        ensures bytes { IfOk result (λ bytes. IsTrue (world self.old).told →
+            bytes ≡ take len (drop at (world self.old).holding.log)) }
+        ensures cause { LogCause (world self.old) (world self.new) result }
         ensures steady { LogSteady (world self.old) (world self.new) result };
 
     /// Writes over what is there, and past the end. Until a sync a crash may leave any bytes in the range.
     fn log_write(&mut self, at: u64, bytes: &Bytes) -> Result<(), EstateError>
         requires { IsTrue (world self.old).told → at ≤ length (world self.old).holding.log }
-        ensures leads { Leads (Step (Torn at (length bytes.now)) None None) (world self.old) (world self.new) }
-        ensures written { OnOk result (IsTrue (world self.old).told → Holds (world self.old).holding.log at bytes.now (world self.new).holding.log) }
+        ensures leads { Leads (Writes at bytes.now) (world self.old) (world self.new) }
+        ensures written { OnOk result (IsTrue (world self.old).told →
+            Holds (world self.old).holding.log at bytes.now (world self.new).holding.log) }
         ensures memory { IsErrOf result NoMemory → Leads Stays (world self.old) (world self.new) }
-        ensures cause { HasCause (world self.old).counts.log_faults (world self.new).counts.log_faults result }
+        ensures cause { LogCause (world self.old) (world self.new) result }
         ensures steady { LogSteady (world self.old) (world self.new) result };
 
     /// After it a crash leaves the log that a read gives.
     fn log_sync(&mut self) -> Result<(), EstateError>
         ensures leads { Leads Stays (world self.old) (world self.new) }
-        ensures durable { OnOk result ((image : Holding) → (world self.new).images (world self.new).now image → image.log ≡ (world self.new).holding.log) }
+        ensures durable { OnOk result (IsDurable (world self.new)) }
         ensures memory { IsErrOf result NoMemory → ⊥ }
-        ensures cause { HasCause (world self.old).counts.log_faults (world self.new).counts.log_faults result }
+        ensures cause { LogCause (world self.old) (world self.new) result }
         ensures steady { LogSteady (world self.old) (world self.new) result };
 
     /// Puts a part on the shelf.
     fn shelf_put(&mut self, name: PartName, edges: &Edges) -> Result<(), EstateError>
-        requires { IsTrue (world self.old).told → (part : StoredPart) → Contains (world self.old).holding.ever part → part.name ≢ name }
-        ensures leads { Leads (Step Same (Some (record { name = name; edges = edges.now })) None) (world self.old) (world self.new) }
+        requires { IsTrue (world self.old).told → IsFresh name (world self.old).holding.ever }
+        ensures leads { Leads (Puts (part_of name edges.now)) (world self.old) (world self.new) }
         ensures put { OnOk result (IsTrue (world self.old).told →
-            ((world self.new).holding.ever ≡ (world self.old).holding.ever ++ (record { name = name; edges = edges.now }) ∷ [])
-            × Contains (world self.new).holding.held name) }
+            HasPut (part_of name edges.now) (world self.old).holding (world self.new).holding) }
         ensures failed { IsErrOf result EstateError.Failed → IsTrue (world self.old).told →
-            (((world self.new).holding.ever ≡ (world self.old).holding.ever ++ (record { name = name; edges = edges.now }) ∷ [])
-            × Contains (world self.new).holding.held name)
-            ⊎ (((world self.new).holding.ever ≡ (world self.old).holding.ever) × ¬ (Contains (world self.new).holding.held name)) }
+            HasPut (part_of name edges.now) (world self.old).holding (world self.new).holding
+            ⊎ HasNotPut (part_of name edges.now) (world self.old).holding (world self.new).holding }
         ensures memory { IsErrOf result NoMemory → Leads Stays (world self.old) (world self.new) }
-        ensures cause { HasCause (world self.old).counts.shelf_faults (world self.new).counts.shelf_faults result }
+        ensures cause { ShelfCause (world self.old) (world self.new) result }
         ensures steady { ShelfSteady (world self.old) (world self.new) result };
 
     /// A cell of a part, or `None` where the part is not held.
@@ -70,34 +70,34 @@ pub trait Estate {
         cell: u32,
     ) -> Result<Option<Bytes>, EstateError>
         ensures leads { Leads Stays (world self.old) (world self.new) }
-        ensures cell { IfOk result (λ found. IsTrue (world self.old).told → MatchOption found
-            (¬ (Contains (world self.new).holding.held name))
-            (λ bytes. Contains (world self.new).holding.held name × (bytes ≡ cell_of name edge cell (world self.old).holding.ever))) }
-        ensures cause { HasCause (world self.old).counts.shelf_faults (world self.new).counts.shelf_faults result }
+        ensures cell { IfOk result (λ found. IsTrue (world self.old).told →
+            AnswersCell name edge cell (world self.old).holding.ever (world self.new).holding.held found) }
+        ensures cause { ShelfCause (world self.old) (world self.new) result }
         ensures steady { ShelfSteady (world self.old) (world self.new) result };
 
     /// The names that are held, in ascending order.
     fn shelf_names(&mut self) -> Result<Names, EstateError>
         ensures leads { Leads Stays (world self.old) (world self.new) }
-        ensures names { IfOk result (λ names. IsTrue (world self.old).told → IsAscending names
-            × ((name : PartName) → Contains names name ↔ Contains (world self.new).holding.held name)) }
-        ensures cause { HasCause (world self.old).counts.shelf_faults (world self.new).counts.shelf_faults result }
+        ensures names { IfOk result (λ names. IsTrue (world self.old).told →
+            AnswersNames (world self.new).holding.held names) }
+        ensures cause { ShelfCause (world self.old) (world self.new) result }
         ensures steady { ShelfSteady (world self.old) (world self.new) result };
 
     /// Appends a commit.
     fn sink_commit(&mut self, id: &Bytes, job: &Bytes, text: &Bytes) -> Result<(), EstateError>
-        ensures leads { Leads (Step Same None (Some (record { id = id.now; job = job.now; text = text.now }))) (world self.old) (world self.new) }
+        ensures leads { Leads (Appends (commit_of id.now job.now text.now)) (world self.old) (world self.new) }
         ensures committed { OnOk result (IsTrue (world self.old).told →
-            (world self.new).holding.commits ≡ (world self.old).holding.commits ++ (record { id = id.now; job = job.now; text = text.now }) ∷ []) }
+            (world self.new).holding.commits ≡ (world self.old).holding.commits ++ commit_of id.now job.now text.now ∷ []) }
         ensures memory { IsErrOf result NoMemory → Leads Stays (world self.old) (world self.new) }
-        ensures cause { HasCause (world self.old).counts.sink_faults (world self.new).counts.sink_faults result }
+        ensures cause { SinkCause (world self.old) (world self.new) result }
         ensures steady { SinkSteady (world self.old) (world self.new) result };
 
     /// The job's text of the first commit of this id.
     fn sink_committed(&mut self, id: &Bytes) -> Result<Option<Bytes>, EstateError>
         ensures leads { Leads Stays (world self.old) (world self.new) }
-        ensures found { IfOk result (λ found. IsTrue (world self.old).told → found ≡ job_under id.now (world self.old).holding.commits) }
-        ensures cause { HasCause (world self.old).counts.sink_faults (world self.new).counts.sink_faults result }
+        ensures found { IfOk result (λ found. IsTrue (world self.old).told →
+            found ≡ job_under id.now (world self.old).holding.commits) }
+        ensures cause { SinkCause (world self.old) (world self.new) result }
         ensures steady { SinkSteady (world self.old) (world self.new) result };
 
     /// What holds between two calls.

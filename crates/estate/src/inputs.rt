@@ -14,21 +14,24 @@ pub trait Inputs {
 
     fn job_text(&mut self) -> Result<Bytes, InputError>
         ensures keeps { KeepsContents (contents self.old) (contents self.new) }
-        ensures text { IfOk result (λ text. IsTrue (contents self.old).told → text ≡ (contents self.old).job) }
+        ensures text { IfOk result (λ text. IsTrue (contents self.old).told →
+            text ≡ (contents self.old).job) }
         ensures cause { InputCause (contents self.old).faults (contents self.new).faults result }
         ensures steady { InputSteady (contents self.old).faults (contents self.new).faults result };
 
     /// The sizes of a table's files, in bytes.
     fn file_sizes(&mut self, table: &Bytes) -> Result<Sizes, InputError>
         ensures keeps { KeepsContents (contents self.old) (contents self.new) }
-        ensures sizes { IfOk result (λ sizes. IsTrue (contents self.old).told → sizes ≡ map length ((contents self.old).files table.now)) }
+        ensures sizes { IfOk result (λ sizes. IsTrue (contents self.old).told →
+            sizes ≡ map length ((contents self.old).files table.now)) }
         ensures cause { InputCause (contents self.old).faults (contents self.new).faults result }
         ensures steady { InputSteady (contents self.old).faults (contents self.new).faults result };
 
     fn read_file(&mut self, table: &Bytes, file: u32) -> Result<Bytes, InputError>
         requires { IsTrue (contents self.old).told → file < length ((contents self.old).files table.now) }
         ensures keeps { KeepsContents (contents self.old) (contents self.new) }
-        ensures bytes { IfOk result (λ bytes. IsTrue (contents self.old).told → bytes ≡ slice_index_or ((contents self.old).files table.now) file []) }
+        ensures bytes { IfOk result (λ bytes. IsTrue (contents self.old).told →
+            bytes ≡ slice_index_or ((contents self.old).files table.now) file []) }
         ensures cause { InputCause (contents self.old).faults (contents self.new).faults result }
         ensures steady { InputSteady (contents self.old).faults (contents self.new).faults result };
 }

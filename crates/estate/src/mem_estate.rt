@@ -3,8 +3,9 @@ ghost use Rattle.std.specs.List.{filter};
 ghost use Rattle.estate.specs.declared.part_name.PartName.{PartName as Name};
 ghost use Rattle.estate.specs.Holding.{job_under};
 ghost use Rattle.estate.specs.Changes.{Rose};
+ghost use Rattle.estate.specs.Calls.{LosesDue};
 ghost use Rattle.estate.specs.Shelf.{held_in, LosesFrom};
-ghost use Rattle.estate.specs.Pasts.{HasEnded, commits_in, commits_at};
+ghost use Rattle.estate.specs.Pasts.{HasEnded, IsCounted, commits_in, commits_at};
 
 use crate::calls::Calls;
 use crate::committed::Committed;
@@ -37,20 +38,24 @@ pub struct MemEstate {
 }
 
 impl MemEstate {
-    ghost use Rattle.std.specs.Prelude.{◌≡◌, ◌≢◌, ◌+◌, ◌<◌, ◌≤◌, ◌^◌, [], true, false, Contains, IfOk, OnOk, IsErrOf};
+    ghost use Rattle.std.specs.Prelude.{◌≡◌, ◌≢◌, ◌+◌, ◌<◌, ◌≤◌, ◌^◌, [], true, false, Contains, IsTrue, IfOk, OnOk, IsErrOf};
     ghost use Rattle.estate.specs.declared.estate_error.EstateError.TheVariants.{NoMemory};
     ghost use Rattle.estate.specs.declared.part_name.PartName.{PartName as Named};
-    ghost use Rattle.estate.specs.Changes.{Leads, Stays, HasCause, LogSteady, ShelfSteady, SinkSteady, Rose};
+    ghost use Rattle.estate.specs.Changes.{Leads, Stays, LogCause, ShelfCause, SinkCause, LogSteady, ShelfSteady, SinkSteady, Rose};
+    ghost use Rattle.estate.specs.Holding.{empty_holding, no_counts};
     ghost use Rattle.estate.specs.Pasts.{chosen};
-    ghost use Rattle.estate.specs.Memory.{mem_world, clock_of, moments_of, time_of, past_of, HasEntered};
+    ghost use Rattle.estate.specs.Memory.{mem_world, clock_of, moments_of, time_of, past_of, HasEntered, IsCall, calls_of, failing_of, losing_of};
 
     /// An empty estate. Its calls are counted from 0: one whose number is in `failing` fails, and at the
     /// start of one that is in `losing` the part of that name is lost, if it is held.
     pub fn new(alloc: Global, failing: &Numbers, losing: &Losses) -> Result<MemEstate, NoMemory>
         ensures told { IfOk result (λ made. (mem_world made).told ≡ true) }
-        ensures holding { IfOk result (λ made. (mem_world made).holding ≡ record { log = []; ever = []; held = []; commits = [] }) }
+        ensures holding { IfOk result (λ made. (mem_world made).holding ≡ empty_holding) }
         ensures first { IfOk result (λ made. (mem_world made).now ≡ 0) }
-        ensures counts { IfOk result (λ made. (mem_world made).counts ≡ record { log_faults = 0; shelf_faults = 0; sink_faults = 0; losses = 0 }) }
+        ensures counts { IfOk result (λ made. (mem_world made).counts ≡ no_counts) }
+        ensures calls { IfOk result (λ made. calls_of made ≡ 0) }
+        ensures failing { IfOk result (λ made. failing_of made ≡ failing.now) }
+        ensures losing { IfOk result (λ made. losing_of made ≡ losing.now) }
     {
         Ok(MemEstate {
             alloc,
@@ -89,12 +94,14 @@ impl MemEstate {
         ensures gone { ¬ (Contains (mem_world self.new).holding.held name) }
         ensures others { (other : Named) → other ≢ name → Contains (mem_world self.old).holding.held other → Contains (mem_world self.new).holding.held other }
         ensures rose { Contains (mem_world self.old).holding.held name → Rose (mem_world self.old).counts.losses (mem_world self.new).counts.losses }
-        ensures moments { moments_of self.new ≡ moments_of self.old }
+        ensures calls { calls_of self.new ≡ calls_of self.old }
+        ensures failing { failing_of self.new ≡ failing_of self.old }
+        ensures losing { losing_of self.new ≡ losing_of self.old }
     {
         let since = self.clock() + 1;
         if self.shelf.lose(name, since) {
             self.losses = self.losses.saturating_add(1);
-            push_within(&mut self.drops, 2 * self.calls.count);
+            self.drops.push_reserved(2 * self.calls.count);
         }
     }
 
@@ -108,7 +115,10 @@ impl MemEstate {
         ensures image { IfOk result (λ made. (mem_world self.now).images (time_of self.now moment) (mem_world made).holding) }
         ensures chosen { IfOk result (λ made. (mem_world made).holding ≡ chosen choice (past_of self.now moment)) }
         ensures first { IfOk result (λ made. (mem_world made).now ≡ 0) }
-        ensures counts { IfOk result (λ made. (mem_world made).counts ≡ record { log_faults = 0; shelf_faults = 0; sink_faults = 0; losses = 0 }) }
+        ensures counts { IfOk result (λ made. (mem_world made).counts ≡ no_counts) }
+        ensures calls { IfOk result (λ made. calls_of made ≡ 0) }
+        ensures failing { IfOk result (λ made. failing_of made ≡ []) }
+        ensures losing { IfOk result (λ made. losing_of made ≡ []) }
     {
         let time = self.time(moment);
         let shelf = self.shelf.crash(self.alloc, time)?;
@@ -148,6 +158,7 @@ impl MemEstate {
     fn begin(&mut self) -> bool
         ensures leads { Leads Stays (mem_world self.old) (mem_world self.new) }
         ensures entered { result ≡ false → HasEntered self.old self.new }
+        ensures call { IsCall (IsTrue result) self.old self.new }
         ensures log { self.new.log_faults ≡ self.old.log_faults }
         ensures shelf { self.new.shelf_faults ≡ self.old.shelf_faults }
         ensures sink { self.new.sink_faults ≡ self.old.sink_faults }
@@ -169,7 +180,8 @@ impl MemEstate {
     fn enter_log(&mut self) -> Result<(), EstateError>
         ensures leads { Leads Stays (mem_world self.old) (mem_world self.new) }
         ensures entered { OnOk result (HasEntered self.old self.new) }
-        ensures cause { HasCause self.old.log_faults self.new.log_faults result }
+        ensures call { IsCall (IsErrOf result EstateError.Failed) self.old self.new }
+        ensures cause { LogCause (mem_world self.old) (mem_world self.new) result }
         ensures steady { LogSteady (mem_world self.old) (mem_world self.new) result }
         ensures failed { IsErrOf result NoMemory → ⊥ }
     {
@@ -183,7 +195,8 @@ impl MemEstate {
     fn enter_shelf(&mut self) -> Result<(), EstateError>
         ensures leads { Leads Stays (mem_world self.old) (mem_world self.new) }
         ensures entered { OnOk result (HasEntered self.old self.new) }
-        ensures cause { HasCause self.old.shelf_faults self.new.shelf_faults result }
+        ensures call { IsCall (IsErrOf result EstateError.Failed) self.old self.new }
+        ensures cause { ShelfCause (mem_world self.old) (mem_world self.new) result }
         ensures steady { ShelfSteady (mem_world self.old) (mem_world self.new) result }
     {
         if self.begin() {
@@ -196,7 +209,8 @@ impl MemEstate {
     fn enter_sink(&mut self) -> Result<(), EstateError>
         ensures leads { Leads Stays (mem_world self.old) (mem_world self.new) }
         ensures entered { OnOk result (HasEntered self.old self.new) }
-        ensures cause { HasCause self.old.sink_faults self.new.sink_faults result }
+        ensures call { IsCall (IsErrOf result EstateError.Failed) self.old self.new }
+        ensures cause { SinkCause (mem_world self.old) (mem_world self.new) result }
         ensures steady { SinkSteady (mem_world self.old) (mem_world self.new) result }
     {
         if self.begin() {
@@ -211,7 +225,8 @@ impl MemEstate {
 fn lose_due(losing: &[Loss], call: u64, since: u64, shelf: &mut MemShelf, losses: &mut u64)
     ensures loses { LosesFrom since shelf.old.parts.items shelf.new.parts.items }
     ensures later { losses.old ≤ losses.new }
-    ensures lost { (name : Name) → Contains (held_in shelf.old.parts.items) name → Contains (held_in shelf.new.parts.items) name ⊎ Rose losses.old losses.new }
+    ensures lost { IsCounted shelf.old.parts.items shelf.new.parts.items losses.old losses.new }
+    ensures due { LosesDue losing.now call (held_in shelf.old.parts.items) (held_in shelf.new.parts.items) }
 {
     for loss in losing {
         lose_if_due(loss, call, since, shelf, losses);
@@ -221,7 +236,9 @@ fn lose_due(losing: &[Loss], call: u64, since: u64, shelf: &mut MemShelf, losses
 fn lose_if_due(loss: &Loss, call: u64, since: u64, shelf: &mut MemShelf, losses: &mut u64)
     ensures loses { LosesFrom since shelf.old.parts.items shelf.new.parts.items }
     ensures later { losses.old ≤ losses.new }
-    ensures lost { (name : Name) → Contains (held_in shelf.old.parts.items) name → Contains (held_in shelf.new.parts.items) name ⊎ Rose losses.old losses.new }
+    ensures lost { IsCounted shelf.old.parts.items shelf.new.parts.items losses.old losses.new }
+    ensures due { LosesDue (loss.now ∷ []) call (held_in shelf.old.parts.items) (held_in shelf.new.parts.items) }
+    ensures fewer { (name : Name) → Contains (held_in shelf.new.parts.items) name → Contains (held_in shelf.old.parts.items) name }
 {
     if loss.call != call {
         return;
@@ -282,48 +299,55 @@ fn find_job(alloc: Global, sink: &[Committed], id: &Bytes) -> Result<Option<Byte
     Ok(None)
 }
 
-// Takes no memory, since there is room.
-fn push_within(drops: &mut Vec<u64>, moment: u64)
-    requires { vec_len drops.old < vec_capacity drops.old }
-    ensures items { drops.new.items ≡ drops.old.items ++ moment ∷ [] }
-    ensures len { vec_len drops.new ≡ vec_len drops.old + 1 }
-    ensures capacity { vec_capacity drops.old ≤ vec_capacity drops.new }
-{
-    match drops.push(moment) {
-        Ok(()) => (),
-        Err(_) => unreachable!(),
-    }
-}
-
 impl Estate for MemEstate {
-    ghost use Rattle.std.specs.Prelude.{◌≢◌, ◌⊎◌, None, Some, IsTrue, IsErrOf};
+    ghost use Rattle.std.specs.Prelude.{IsTrue, IsErrOf, take, drop};
     ghost use Rattle.estate.specs.declared.estate_error.EstateError.TheVariants.{NoMemory};
-    ghost use Rattle.estate.specs.Holding.{Holding, StoredPart};
-    ghost use Rattle.estate.specs.Changes.{Step, Stays, Leads, Torn, Same, Holds, HasCause, LogSteady, ShelfSteady, SinkSteady};
-    ghost use Rattle.estate.specs.Memory.{mem_world, history_of, clock_of, counts_of, moments_of, past_of, present_of};
+    ghost use Rattle.estate.specs.Holding.{part_of, commit_of, IsFresh};
+    ghost use Rattle.estate.specs.World.{IsDurable};
+    ghost use Rattle.estate.specs.Parts.{AnswersCell, AnswersNames};
+    ghost use Rattle.estate.specs.Changes.{Stays, Leads, Writes, Puts, Appends, Holds, HasPut, HasNotPut, LogCause, ShelfCause, SinkCause, LogSteady, ShelfSteady, SinkSteady};
+    ghost use Rattle.estate.specs.Memory.{mem_world, history_of, clock_of, counts_of, moments_of, past_of, present_of, IsCall};
     ghost use Rattle.estate.specs.PastLaws.{past_lawful};
 
     ghost world = { mem_world };
 
-    // Four calls say one thing more than the trait asks: what a crash within them finds.
+    // Each call says more than the trait asks: it fails as listed and loses what is due, and four say what
+    // a crash within them finds.
 
-    fn log_len(&mut self) -> Result<u64, EstateError> {
+    fn log_len(&mut self) -> Result<u64, EstateError>
+        ensures leads { Leads Stays (mem_world self.old) (mem_world self.new) }
+        ensures len { IfOk result (λ len. IsTrue (mem_world self.old).told →
+            len ≡ length (mem_world self.old).holding.log) }
+        ensures cause { LogCause (mem_world self.old) (mem_world self.new) result }
+        ensures steady { LogSteady (mem_world self.old) (mem_world self.new) result }
+        ensures call { IsCall (IsErrOf result EstateError.Failed) self.old self.new }
+    {
         self.enter_log()?;
         Ok(self.log.len())
     }
 
-    fn log_read(&mut self, at: u64, len: u64) -> Result<Bytes, EstateError> {
+    fn log_read(&mut self, at: u64, len: u64) -> Result<Bytes, EstateError>
+        requires { IsTrue (mem_world self.old).told → at + len ≤ length (mem_world self.old).holding.log }
+        ensures leads { Leads Stays (mem_world self.old) (mem_world self.new) }
+        ensures bytes { IfOk result (λ bytes. IsTrue (mem_world self.old).told →
+            bytes ≡ take len (drop at (mem_world self.old).holding.log)) }
+        ensures cause { LogCause (mem_world self.old) (mem_world self.new) result }
+        ensures steady { LogSteady (mem_world self.old) (mem_world self.new) result }
+        ensures call { IsCall (IsErrOf result EstateError.Failed) self.old self.new }
+    {
         self.enter_log()?;
         Ok(self.log.read(self.alloc, at, len)?)
     }
 
     fn log_write(&mut self, at: u64, bytes: &Bytes) -> Result<(), EstateError>
         requires { IsTrue (mem_world self.old).told → at ≤ length (mem_world self.old).holding.log }
-        ensures leads { Leads (Step (Torn at (length bytes.now)) None None) (mem_world self.old) (mem_world self.new) }
-        ensures written { OnOk result (IsTrue (mem_world self.old).told → Holds (mem_world self.old).holding.log at bytes.now (mem_world self.new).holding.log) }
+        ensures leads { Leads (Writes at bytes.now) (mem_world self.old) (mem_world self.new) }
+        ensures written { OnOk result (IsTrue (mem_world self.old).told →
+            Holds (mem_world self.old).holding.log at bytes.now (mem_world self.new).holding.log) }
         ensures memory { IsErrOf result NoMemory → Leads Stays (mem_world self.old) (mem_world self.new) }
-        ensures cause { HasCause (mem_world self.old).counts.log_faults (mem_world self.new).counts.log_faults result }
+        ensures cause { LogCause (mem_world self.old) (mem_world self.new) result }
         ensures steady { LogSteady (mem_world self.old) (mem_world self.new) result }
+        ensures call { IsCall (IsErrOf result EstateError.Failed) self.old self.new }
         // a write under way is one since the last sync
         ensures under_way { OnOk result ((past_of self.new (moments_of self.old)).disk ≡ (present_of self.new).disk) }
     {
@@ -335,10 +359,11 @@ impl Estate for MemEstate {
 
     fn log_sync(&mut self) -> Result<(), EstateError>
         ensures leads { Leads Stays (mem_world self.old) (mem_world self.new) }
-        ensures durable { OnOk result ((image : Holding) → (mem_world self.new).images (mem_world self.new).now image → image.log ≡ (mem_world self.new).holding.log) }
+        ensures durable { OnOk result (IsDurable (mem_world self.new)) }
         ensures memory { IsErrOf result NoMemory → ⊥ }
-        ensures cause { HasCause (mem_world self.old).counts.log_faults (mem_world self.new).counts.log_faults result }
+        ensures cause { LogCause (mem_world self.old) (mem_world self.new) result }
         ensures steady { LogSteady (mem_world self.old) (mem_world self.new) result }
+        ensures call { IsCall (IsErrOf result EstateError.Failed) self.old self.new }
         // a sync under way has not happened
         ensures under_way { OnOk result ((past_of self.new (moments_of self.old)).disk ≡ (present_of self.old).disk) }
     {
@@ -349,18 +374,17 @@ impl Estate for MemEstate {
     }
 
     fn shelf_put(&mut self, name: PartName, edges: &Edges) -> Result<(), EstateError>
-        requires { IsTrue (mem_world self.old).told → (part : StoredPart) → Contains (mem_world self.old).holding.ever part → part.name ≢ name }
-        ensures leads { Leads (Step Same (Some (record { name = name; edges = edges.now })) None) (mem_world self.old) (mem_world self.new) }
+        requires { IsTrue (mem_world self.old).told → IsFresh name (mem_world self.old).holding.ever }
+        ensures leads { Leads (Puts (part_of name edges.now)) (mem_world self.old) (mem_world self.new) }
         ensures put { OnOk result (IsTrue (mem_world self.old).told →
-            ((mem_world self.new).holding.ever ≡ (mem_world self.old).holding.ever ++ (record { name = name; edges = edges.now }) ∷ [])
-            × Contains (mem_world self.new).holding.held name) }
+            HasPut (part_of name edges.now) (mem_world self.old).holding (mem_world self.new).holding) }
         ensures failed { IsErrOf result EstateError.Failed → IsTrue (mem_world self.old).told →
-            (((mem_world self.new).holding.ever ≡ (mem_world self.old).holding.ever ++ (record { name = name; edges = edges.now }) ∷ [])
-            × Contains (mem_world self.new).holding.held name)
-            ⊎ (((mem_world self.new).holding.ever ≡ (mem_world self.old).holding.ever) × ¬ (Contains (mem_world self.new).holding.held name)) }
+            HasPut (part_of name edges.now) (mem_world self.old).holding (mem_world self.new).holding
+            ⊎ HasNotPut (part_of name edges.now) (mem_world self.old).holding (mem_world self.new).holding }
         ensures memory { IsErrOf result NoMemory → Leads Stays (mem_world self.old) (mem_world self.new) }
-        ensures cause { HasCause (mem_world self.old).counts.shelf_faults (mem_world self.new).counts.shelf_faults result }
+        ensures cause { ShelfCause (mem_world self.old) (mem_world self.new) result }
         ensures steady { ShelfSteady (mem_world self.old) (mem_world self.new) result }
+        ensures call { IsCall (IsErrOf result EstateError.Failed) self.old self.new }
         // a part under way is not there
         ensures under_way { OnOk result ((past_of self.new (moments_of self.old)).ever ≡ (present_of self.old).ever) }
     {
@@ -382,23 +406,38 @@ impl Estate for MemEstate {
         name: PartName,
         edge: u32,
         cell: u32,
-    ) -> Result<Option<Bytes>, EstateError> {
+    ) -> Result<Option<Bytes>, EstateError>
+        ensures leads { Leads Stays (mem_world self.old) (mem_world self.new) }
+        ensures cell { IfOk result (λ found. IsTrue (mem_world self.old).told →
+            AnswersCell name edge cell (mem_world self.old).holding.ever (mem_world self.new).holding.held found) }
+        ensures cause { ShelfCause (mem_world self.old) (mem_world self.new) result }
+        ensures steady { ShelfSteady (mem_world self.old) (mem_world self.new) result }
+        ensures call { IsCall (IsErrOf result EstateError.Failed) self.old self.new }
+    {
         self.enter_shelf()?;
         Ok(self.shelf.cell(self.alloc, name, edge, cell)?)
     }
 
-    fn shelf_names(&mut self) -> Result<Names, EstateError> {
+    fn shelf_names(&mut self) -> Result<Names, EstateError>
+        ensures leads { Leads Stays (mem_world self.old) (mem_world self.new) }
+        ensures names { IfOk result (λ names. IsTrue (mem_world self.old).told →
+            AnswersNames (mem_world self.new).holding.held names) }
+        ensures cause { ShelfCause (mem_world self.old) (mem_world self.new) result }
+        ensures steady { ShelfSteady (mem_world self.old) (mem_world self.new) result }
+        ensures call { IsCall (IsErrOf result EstateError.Failed) self.old self.new }
+    {
         self.enter_shelf()?;
         Ok(self.shelf.names(self.alloc)?)
     }
 
     fn sink_commit(&mut self, id: &Bytes, job: &Bytes, text: &Bytes) -> Result<(), EstateError>
-        ensures leads { Leads (Step Same None (Some (record { id = id.now; job = job.now; text = text.now }))) (mem_world self.old) (mem_world self.new) }
+        ensures leads { Leads (Appends (commit_of id.now job.now text.now)) (mem_world self.old) (mem_world self.new) }
         ensures committed { OnOk result (IsTrue (mem_world self.old).told →
-            (mem_world self.new).holding.commits ≡ (mem_world self.old).holding.commits ++ (record { id = id.now; job = job.now; text = text.now }) ∷ []) }
+            (mem_world self.new).holding.commits ≡ (mem_world self.old).holding.commits ++ commit_of id.now job.now text.now ∷ []) }
         ensures memory { IsErrOf result NoMemory → Leads Stays (mem_world self.old) (mem_world self.new) }
-        ensures cause { HasCause (mem_world self.old).counts.sink_faults (mem_world self.new).counts.sink_faults result }
+        ensures cause { SinkCause (mem_world self.old) (mem_world self.new) result }
         ensures steady { SinkSteady (mem_world self.old) (mem_world self.new) result }
+        ensures call { IsCall (IsErrOf result EstateError.Failed) self.old self.new }
         // a commit under way is not there
         ensures under_way { OnOk result ((past_of self.new (moments_of self.old)).commits ≡ (present_of self.old).commits) }
     {
@@ -417,7 +456,14 @@ impl Estate for MemEstate {
         Ok(())
     }
 
-    fn sink_committed(&mut self, id: &Bytes) -> Result<Option<Bytes>, EstateError> {
+    fn sink_committed(&mut self, id: &Bytes) -> Result<Option<Bytes>, EstateError>
+        ensures leads { Leads Stays (mem_world self.old) (mem_world self.new) }
+        ensures found { IfOk result (λ found. IsTrue (mem_world self.old).told →
+            found ≡ job_under id.now (mem_world self.old).holding.commits) }
+        ensures cause { SinkCause (mem_world self.old) (mem_world self.new) result }
+        ensures steady { SinkSteady (mem_world self.old) (mem_world self.new) result }
+        ensures call { IsCall (IsErrOf result EstateError.Failed) self.old self.new }
+    {
         self.enter_sink()?;
         Ok(find_job(self.alloc, &self.sink, id)?)
     }

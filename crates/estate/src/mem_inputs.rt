@@ -17,7 +17,8 @@ pub struct MemInputs {
 }
 
 impl MemInputs {
-    ghost use Rattle.std.specs.Prelude.{◌≡◌, ◌≤◌, ℕ, List, true, IfOk};
+    ghost use Rattle.std.specs.Prelude.{◌≡◌, ◌≤◌, ℕ, List, true, IfOk, IsErrOf};
+    ghost use Rattle.estate.specs.Calls.{FailsAsListed};
     ghost use Rattle.estate.specs.Changes.{InputCause, InputSteady};
     ghost use Rattle.estate.specs.Contents.{files_in};
     ghost use Rattle.estate.specs.Memory.{mem_contents};
@@ -33,6 +34,8 @@ impl MemInputs {
         ensures job { IfOk result (λ made. (mem_contents made).job ≡ job.now) }
         ensures files { IfOk result (λ made. (table : List ℕ) → (mem_contents made).files table ≡ files_in tables.now table) }
         ensures faults { IfOk result (λ made. (mem_contents made).faults ≡ 0) }
+        ensures calls { IfOk result (λ made. made.calls.count ≡ 0) }
+        ensures failing { IfOk result (λ made. made.calls.failing.items ≡ failing.now) }
     {
         Ok(MemInputs {
             alloc,
@@ -45,6 +48,7 @@ impl MemInputs {
 
     // Counts a call. Where it is to fail, it counts a fault too.
     fn begin(calls: &mut Calls, faults: &mut u64) -> Result<(), InputError>
+        ensures call { FailsAsListed (IsErrOf result InputError.Failed) calls.old calls.new }
         ensures cause { InputCause faults.old faults.new result }
         ensures steady { InputSteady faults.old faults.new result }
         ensures later { faults.old ≤ faults.new }
@@ -70,16 +74,36 @@ fn files_of<'a>(tables: &'a [Table], name: &Bytes) -> Option<&'a Files>
 }
 
 impl Inputs for MemInputs {
+    ghost use Rattle.std.specs.Prelude.{◌<◌, slice_index_or, IsTrue, IsErrOf};
+    ghost use Rattle.estate.specs.Calls.{FailsAsListed};
+    ghost use Rattle.estate.specs.Changes.{InputCause, InputSteady};
+    ghost use Rattle.estate.specs.Contents.{KeepsContents};
     ghost use Rattle.estate.specs.Memory.{mem_contents};
 
     ghost contents = { mem_contents };
 
-    fn job_text(&mut self) -> Result<Bytes, InputError> {
+    // Each call says more than the trait asks: it fails as listed.
+
+    fn job_text(&mut self) -> Result<Bytes, InputError>
+        ensures keeps { KeepsContents (mem_contents self.old) (mem_contents self.new) }
+        ensures text { IfOk result (λ text. IsTrue (mem_contents self.old).told →
+            text ≡ (mem_contents self.old).job) }
+        ensures cause { InputCause (mem_contents self.old).faults (mem_contents self.new).faults result }
+        ensures steady { InputSteady (mem_contents self.old).faults (mem_contents self.new).faults result }
+        ensures call { FailsAsListed (IsErrOf result InputError.Failed) self.old.calls self.new.calls }
+    {
         Self::begin(&mut self.calls, &mut self.faults)?;
         Ok(Bytes::from_slice(self.alloc, self.job.as_slice())?)
     }
 
-    fn file_sizes(&mut self, table: &Bytes) -> Result<Sizes, InputError> {
+    fn file_sizes(&mut self, table: &Bytes) -> Result<Sizes, InputError>
+        ensures keeps { KeepsContents (mem_contents self.old) (mem_contents self.new) }
+        ensures sizes { IfOk result (λ sizes. IsTrue (mem_contents self.old).told →
+            sizes ≡ map length ((mem_contents self.old).files table.now)) }
+        ensures cause { InputCause (mem_contents self.old).faults (mem_contents self.new).faults result }
+        ensures steady { InputSteady (mem_contents self.old).faults (mem_contents self.new).faults result }
+        ensures call { FailsAsListed (IsErrOf result InputError.Failed) self.old.calls self.new.calls }
+    {
         Self::begin(&mut self.calls, &mut self.faults)?;
         match files_of(self.tables.as_slice(), table) {
             Some(files) => Ok(sizes_of(self.alloc, files.as_slice())?),
@@ -87,7 +111,15 @@ impl Inputs for MemInputs {
         }
     }
 
-    fn read_file(&mut self, table: &Bytes, file: u32) -> Result<Bytes, InputError> {
+    fn read_file(&mut self, table: &Bytes, file: u32) -> Result<Bytes, InputError>
+        requires { IsTrue (mem_contents self.old).told → file < length ((mem_contents self.old).files table.now) }
+        ensures keeps { KeepsContents (mem_contents self.old) (mem_contents self.new) }
+        ensures bytes { IfOk result (λ bytes. IsTrue (mem_contents self.old).told →
+            bytes ≡ slice_index_or ((mem_contents self.old).files table.now) file []) }
+        ensures cause { InputCause (mem_contents self.old).faults (mem_contents self.new).faults result }
+        ensures steady { InputSteady (mem_contents self.old).faults (mem_contents self.new).faults result }
+        ensures call { FailsAsListed (IsErrOf result InputError.Failed) self.old.calls self.new.calls }
+    {
         Self::begin(&mut self.calls, &mut self.faults)?;
         match files_of(self.tables.as_slice(), table) {
             Some(files) => {

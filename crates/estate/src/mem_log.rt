@@ -64,13 +64,10 @@ impl MemLog {
             bytes: Bytes::from_slice(alloc, bytes.as_slice())?,
         };
         overwrite(&mut self.bytes, at as usize, bytes.as_slice())?;
-        push_within(
-            &mut self.changes,
-            LogChange {
-                since,
-                event: LogEvent::Wrote(write),
-            },
-        );
+        self.changes.push_reserved(LogChange {
+            since,
+            event: LogEvent::Wrote(write),
+        });
         self.unsynced = true;
         Ok(())
     }
@@ -97,13 +94,10 @@ impl MemLog {
         ensures synced { (disk_of self.new.changes.items).writes ≡ [] }
     {
         if self.unsynced {
-            push_within(
-                &mut self.changes,
-                LogChange {
-                    since,
-                    event: LogEvent::Synced,
-                },
-            );
+            self.changes.push_reserved(LogChange {
+                since,
+                event: LogEvent::Synced,
+            });
             self.unsynced = false;
         }
     }
@@ -212,17 +206,4 @@ fn overwrite(log: &mut Vec<u8>, at: usize, bytes: &[u8]) -> Result<(), NoMemory>
     log.extend_from_slice(&bytes[over..])?;
     log[start..start + over].copy_from_slice(&bytes[..over]);
     Ok(())
-}
-
-// Takes no memory, since there is room.
-fn push_within(changes: &mut Vec<LogChange>, change: LogChange)
-    requires { vec_len changes.old < vec_capacity changes.old }
-    ensures items { changes.new.items ≡ changes.old.items ++ change ∷ [] }
-    ensures len { vec_len changes.new ≡ vec_len changes.old + 1 }
-    ensures capacity { vec_capacity changes.old ≤ vec_capacity changes.new }
-{
-    match changes.push(change) {
-        Ok(()) => (),
-        Err(_) => unreachable!(),
-    }
 }

@@ -133,7 +133,7 @@ fn add_placed(parts: &mut Vec<Shelved>, places: &mut Places, part: Shelved) -> R
     parts.reserve(1)?;
     let place = parts.as_slice().len();
     note(places, &part, place)?;
-    push_within(parts, part);
+    parts.push_reserved(part);
     Ok(())
 }
 
@@ -145,16 +145,5 @@ fn note(places: &mut Places, part: &Shelved, place: usize) -> Result<(), NoMemor
     match part.lost {
         None => places.insert(part.name, place),
         Some(_) => Ok(()),
-    }
-}
-
-// Takes no memory, since there is room.
-fn push_within(parts: &mut Vec<Shelved>, part: Shelved)
-    requires { vec_len parts.old < vec_capacity parts.old }
-    ensures { parts.new.items ≡ parts.old.items ++ part ∷ [] }
-{
-    match parts.push(part) {
-        Ok(()) => (),
-        Err(_) => unreachable!(),
     }
 }

@@ -14,8 +14,10 @@ pub trait Printer {
     /// Adds the bytes, or a first part of them where it fails. Takes no memory.
     fn print(&mut self, bytes: &Bytes) -> Result<(), PrintFailed>
         ensures keeps { KeepsPrinted (printed self.old) (printed self.new) }
-        ensures all { OnOk result (IsTrue (printed self.old).told → (printed self.new).bytes ≡ (printed self.old).bytes ++ bytes.now) }
-        ensures part { OnErr result (IsTrue (printed self.old).told → AddsPart bytes.now (printed self.old).bytes (printed self.new).bytes) }
+        ensures all { OnOk result (IsTrue (printed self.old).told →
+            (printed self.new).bytes ≡ (printed self.old).bytes ++ bytes.now) }
+        ensures part { OnErr result (IsTrue (printed self.old).told →
+            AddsPart bytes.now (printed self.old).bytes (printed self.new).bytes) }
         ensures cause { OnErr result (Rose (printed self.old).faults (printed self.new).faults) }
         ensures steady { OnOk result ((printed self.new).faults ≡ (printed self.old).faults) };
 }

@@ -1,7 +1,7 @@
 -- What a crash may leave while a log is started.
 use Rattle.std.proofs.Common.{◌≡◌, inl, inr, ℕ, zero, ◌+◌, ◌<◌, ◌≤◌, List, [], ◌∷◌, length, drop, Option, Some, None, IfSome, Ok, Err, IsTrue, refl, sym, ◌∙◌, ap, subst, arith}
 use Rattle.estate.specs.Holding.{Holding}
-use Rattle.estate.specs.World.{World, IsWorld}
+use Rattle.estate.specs.World.{World, IsWorld, IsDurable}
 use Rattle.estate.specs.Changes.{Torn, Holds, Step, Stays, Leads}
 use Rattle.estate.proofs.Laws.{leads_after, leads_by, leads_more, now_since, step_by}
 use Rattle.event_log.specs.Blocks.{blocks_of, read_after, SameBlocks}
@@ -9,7 +9,7 @@ use Rattle.event_log.specs.Answers.{AnswersParse, WhyUnread, AnswersBytes}
 use Rattle.event_log.specs.declared.log.TheConstants.{LOG_LIMIT}
 use Rattle.event_log.specs.declared.log_error.LogError.{LogError}
 use Rattle.event_log.specs.declared.log_error.LogError.TheVariants.{Fault, TooLarge, BadBlock, NoMemory}
-use Rattle.event_log.specs.Started.{ClosesAt, IsSynced, IsRead, StaysFresh}
+use Rattle.event_log.specs.Started.{ClosesAt, IsRead, StaysFresh}
 use Rattle.event_log.proofs.Reading.{fresh_blocks, read_none, two_bytes}
 
 fresh_same : (old new : List ℕ) → StaysFresh old new → SameBlocks old new
@@ -26,27 +26,25 @@ stays_fresh a b stays = leads_more StaysFresh None None a b (λ log. inl refl) s
 pub then_fresh : (a b c : World) → IsWorld a → IsWorld b → IsWorld c → Leads Stays a b → Leads (Step StaysFresh None None) b c → Leads (Step StaysFresh None None) a c
 then_fresh a b c lawful_a lawful_b lawful_c stays writes = leads_after StaysFresh None None a b c lawful_a lawful_b lawful_c (λ log. inl refl) stays writes
 
-pub synced_stays : (a b : World) → IsWorld b → Leads Stays a b → IsSynced a → IsSynced b
-synced_stays a b lawful_b stays synced = record {
-  same = λ image here.
-      let from = stays.images image (now_since a b lawful_b stays.time image here) in
-      let told = subst (λ t. IsTrue t) stays.time.told (lawful_b.tells b.now image here) in
-      (from.2).log ∙ synced.same from.0 from.1 ∙ sym (stays.holding told).log;
-}
+pub synced_stays : (a b : World) → IsWorld b → Leads Stays a b → IsDurable a → IsDurable b
+synced_stays a b lawful_b stays synced image here =
+    let from = stays.images image (now_since a b lawful_b stays.time image here) in
+    let told = subst (λ t. IsTrue t) stays.time.told (lawful_b.tells b.now image here) in
+    (from.2).log ∙ synced from.0 from.1 ∙ sym (stays.holding told).log
 
-pub read_started : (world : World) (log : List ℕ) (bodies : List (List ℕ)) (end : ℕ) → log ≡ world.holding.log → IsRead log bodies end → IsSynced world → ClosesAt end world
+pub read_started : (world : World) (log : List ℕ) (bodies : List (List ℕ)) (end : ℕ) → log ≡ world.holding.log → IsRead log bodies end → IsDurable world → ClosesAt end world
 read_started world log bodies end is read synced = record {
   front = read.front;
   bodies = bodies;
   size = read.size;
   whole = read.whole;
-  images = λ image here. ((read.closed).0, synced.same image here ∙ sym is ∙ (read.closed).1);
+  images = λ image here. ((read.closed).0, synced image here ∙ sym is ∙ (read.closed).1);
 }
 
-pub fresh_keeps : (a b : World) → IsWorld a → (IsTrue a.told → length a.holding.log ≤ 1) → IsSynced a → Leads (Step (Torn 0 1) None None) a b → Leads (Step StaysFresh None None) a b
+pub fresh_keeps : (a b : World) → IsWorld a → (IsTrue a.told → length a.holding.log ≤ 1) → IsDurable a → Leads (Step (Torn 0 1) None None) a b → Leads (Step StaysFresh None None) a b
 fresh_keeps a b lawful_a fresh synced write =
     leads_by a b lawful_a write (λ d h from step.
-    let short : length d.log ≤ 1 = subst (λ (l : List ℕ). length l ≤ 1) (sym (synced.same d from)) (fresh (lawful_a.tells a.now d from)) in
+    let short : length d.log ≤ 1 = subst (λ (l : List ℕ). length l ≤ 1) (sym (synced d from)) (fresh (lawful_a.tells a.now d from)) in
     step_by (Torn 0 1) None None StaysFresh d h (λ torn. inr (short, omega (arith, short, torn.no_longer))) step)
 
 pub fresh_started : (a b : World) → ((image : Holding) → b.images b.now image → Holds a.holding.log 0 (0 ∷ []) image.log) → ClosesAt 0 b

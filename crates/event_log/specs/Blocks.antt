@@ -1,6 +1,9 @@
 -- What the bytes of a log say.
 use Rattle.std.specs.Prelude.{◌≡◌, ◌⊎◌, ℕ, zero, suc, ◌+◌, ◌==◌, nat_lt, Bool, true, false, List, [], ◌∷◌, ◌++◌, length, take, drop, sum_by, Option, Some, None, if◌then◌else◌}
 use Rattle.std.specs.Option.{option_map}
+use Rattle.estate.specs.Holding.{Holding}
+use Rattle.estate.specs.World.{World}
+use Rattle.estate.specs.Changes.{Step}
 use Rattle.std.specs.Int.{w64, to_be_bytes, from_be_bytes}
 
 -- the bodies of the whole blocks, in order, and whether a closed gate stands behind the last
@@ -62,3 +65,16 @@ SameBlocks old new = blocks_of new ≡ blocks_of old
 -- the new log has the blocks of the old, alone or with one of this body
 abbrev pub MayGainBlock : List ℕ → List ℕ → List ℕ → Type 0
 MayGainBlock body old new = (blocks_of new ≡ blocks_of old) ⊎ (blocks_of new ≡ with_block body (blocks_of old))
+
+-- the log has the same blocks, and nothing else changes but that names may be gone
+abbrev pub KeepsBlocks : Holding → Holding → Type 0
+KeepsBlocks = Step SameBlocks None None
+
+-- the same, or with one block of this body
+abbrev pub AddsBlock : List ℕ → Holding → Holding → Type 0
+AddsBlock body = Step (MayGainBlock body) None None
+
+-- whatever a crash now leaves, the log has these blocks
+abbrev pub HasBlocks : Option (List (List ℕ)) → World → Type 0
+HasBlocks blocks world =
+    (image : Holding) → world.images world.now image → blocks_of image.log ≡ blocks

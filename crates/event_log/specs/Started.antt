@@ -1,7 +1,8 @@
 -- A log that is ready for its next block.
-use Rattle.std.specs.Prelude.{◌≡◌, ◌⊎◌, ℕ, zero, ◌≤◌, IsTrue, List, ◌∷◌, ◌++◌, length}
+use Rattle.std.specs.Prelude.{◌≡◌, ◌⊎◌, ℕ, zero, ◌≤◌, None, IsTrue, List, ◌∷◌, ◌++◌, length}
 use Rattle.estate.specs.Holding.{Holding}
 use Rattle.estate.specs.World.{World}
+use Rattle.estate.specs.Changes.{Step, Holds}
 use Rattle.event_log.specs.Blocks.{after_blocks, blocks_size, read_after}
 
 -- this front of a log is whole blocks of these bodies, whatever gate follows
@@ -32,10 +33,15 @@ pub record ClosesAt (end : ℕ) (world : World) : Type 0 where
 abbrev pub IsStarted : ℕ → World → Type 0
 IsStarted end world = IsTrue world.told → ClosesAt end world
 
--- each crash now leaves the log that a read gives
-pub record IsSynced (world : World) : Type 0 where
-  pub same : (image : Holding) → world.images world.now image → image.log ≡ world.holding.log
-
 -- a fresh log stays fresh, and any other is as it was
 abbrev pub StaysFresh : List ℕ → List ℕ → Type 0
 StaysFresh old new = (new ≡ old) ⊎ ((length old ≤ 1) × (length new ≤ 1))
+
+-- the same of the log, and nothing else changes but that names may be gone
+abbrev pub KeepsUnlessFresh : Holding → Holding → Type 0
+KeepsUnlessFresh = Step StaysFresh None None
+
+-- whatever a crash now leaves, the log is the old one with these bytes at this place
+abbrev pub HasWritten : ℕ → List ℕ → World → World → Type 0
+HasWritten at bytes old new =
+    (image : Holding) → new.images new.now image → Holds old.holding.log at bytes image.log

@@ -1,7 +1,6 @@
 ghost use Rattle.std.specs.Prelude.{◌≡◌, ◌⊎◌, ◌+◌, ◌<◌, ◌≤◌, length, None, IsTrue, OnOk, OnErr, IsErrOf, is_ok, if◌then◌else◌};
-ghost use Rattle.estate.specs.Holding.{Holding};
-ghost use Rattle.estate.specs.Changes.{Step, Leads, Rose};
-ghost use Rattle.event_log.specs.Blocks.{blocks_of, with_block, SameBlocks, MayGainBlock};
+ghost use Rattle.estate.specs.Changes.{Leads, LogRose};
+ghost use Rattle.event_log.specs.Blocks.{blocks_of, with_block, KeepsBlocks, AddsBlock, HasBlocks};
 
 use crate::LogError;
 use crate::write::{staged, write_synced};
@@ -36,20 +35,22 @@ impl Log {
         requires { IsStarted self.old.end (E.world estate.old) }
 
         // each image since the start is one of the start, alone or with the block
-        ensures adds { Leads (Step (MayGainBlock body.now) None None) (E.world estate.old) (E.world estate.new) }
-        ensures adds_nothing { OnErr result (IsErrOf result LogError.Fault ⊎ Leads (Step SameBlocks None None) (E.world estate.old) (E.world estate.new)) }
+        ensures adds { Leads (AddsBlock body.now) (E.world estate.old) (E.world estate.new) }
+        ensures adds_nothing { OnErr result (IsErrOf result LogError.Fault
+            ⊎ Leads KeepsBlocks (E.world estate.old) (E.world estate.new)) }
 
         // once it is added, each image has it
-        ensures lands { OnOk result ((image : Holding) → (E.world estate.new).images (E.world estate.new).now image →
-            blocks_of image.log ≡ with_block body.now (blocks_of (E.world estate.old).holding.log)) }
+        ensures lands { OnOk result (HasBlocks
+            (with_block body.now (blocks_of (E.world estate.old).holding.log)) (E.world estate.new)) }
 
         ensures started { IsErrOf result LogError.Fault ⊎ IsStarted self.new.end (E.world estate.new) }
-        ensures end { self.new.end ≡ (if is_ok result then self.old.end + 9 + length body.now else self.old.end) }
+        ensures end { self.new.end ≡
+            (if is_ok result then self.old.end + 9 + length body.now else self.old.end) }
         ensures too_large { AnswersLength (self.old.end + 10 + length body.now) result }
 
         // nothing is called for a block that is too large
         ensures untouched { LOG_LIMIT < self.old.end + 10 + length body.now → estate.new ≡ estate.old }
-        ensures fault { IsErrOf result LogError.Fault → Rose (E.world estate.old).counts.log_faults (E.world estate.new).counts.log_faults }
+        ensures fault { IsErrOf result LogError.Fault → LogRose (E.world estate.old) (E.world estate.new) }
         ensures met { AnswersFaults (E.world estate.old) (E.world estate.new) result }
     {
         let asked = self.end + 10 + body.len() as u64;

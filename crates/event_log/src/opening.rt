@@ -1,9 +1,9 @@
 ghost use Rattle.std.specs.Prelude.{◌≡◌, ◌⊎◌, ◌≤◌, ◌<◌, length, Some, None, IsTrue, IfOk, IfSome, OnOk, OnErr, IsErrOf};
 ghost use Rattle.estate.specs.declared.estate_error.EstateError.TheVariants as estate_error;
-ghost use Rattle.estate.specs.Holding.{Holding};
-ghost use Rattle.estate.specs.Changes.{Step, Stays, Leads, Rose, HasCause, LogSteady};
-ghost use Rattle.event_log.specs.Blocks.{SameBlocks, blocks_of, blocks_size};
-ghost use Rattle.event_log.specs.Started.{IsStarted, IsSynced, StaysFresh};
+ghost use Rattle.estate.specs.Changes.{Stays, Leads, LogRose, LogCause, LogSteady};
+ghost use Rattle.estate.specs.World.{IsDurable};
+ghost use Rattle.event_log.specs.Blocks.{KeepsBlocks, HasBlocks, blocks_size};
+ghost use Rattle.event_log.specs.Started.{IsStarted, KeepsUnlessFresh};
 ghost use Rattle.event_log.specs.Answers.{AnswersFaults, AnswersLog, AnswersBytes};
 
 use crate::log::LOG_LIMIT;
@@ -17,8 +17,9 @@ use std::alloc::Global;
 /// The blocks of the log. It reads only, and reads the log once.
 pub fn view<E: Estate>(alloc: Global, estate: &mut E) -> Result<Blocks, LogError>
     ensures adds_nothing { Leads Stays (E.world estate.old) (E.world estate.new) }
-    ensures answer { IsTrue (E.world estate.old).told → AnswersLog (λ blocks. blocks) (E.world estate.old).holding.log result }
-    ensures fault { IsErrOf result LogError.Fault → Rose (E.world estate.old).counts.log_faults (E.world estate.new).counts.log_faults }
+    ensures answer { IsTrue (E.world estate.old).told →
+        AnswersLog (λ blocks. blocks) (E.world estate.old).holding.log result }
+    ensures fault { IsErrOf result LogError.Fault → LogRose (E.world estate.old) (E.world estate.new) }
     ensures met { AnswersFaults (E.world estate.old) (E.world estate.new) result }
 {
     match read_log(estate)? {
@@ -34,16 +35,18 @@ pub fn view<E: Estate>(alloc: Global, estate: &mut E) -> Result<Blocks, LogError
 /// at most one byte is fresh, and gets its closed gate.
 pub fn start<E: Estate>(alloc: Global, estate: &mut E) -> Result<(Log, Blocks), LogError>
     // each image since the start has the blocks of one of the start, and its bytes where it was not fresh
-    ensures adds_nothing { Leads (Step SameBlocks None None) (E.world estate.old) (E.world estate.new) }
-    ensures writes { Leads (Step StaysFresh None None) (E.world estate.old) (E.world estate.new) }
-    ensures unchanged { OnErr result (IsErrOf result LogError.Fault ⊎ Leads Stays (E.world estate.old) (E.world estate.new)) }
-    ensures answer { IsTrue (E.world estate.old).told → AnswersLog (λ made. made.1) (E.world estate.old).holding.log result }
-    ensures started { IfOk result (λ made. IsStarted made.0.end (E.world estate.new)) }
-    ensures end { IfOk result (λ made. made.0.end ≡ blocks_size made.1) }
+    ensures adds_nothing { Leads KeepsBlocks (E.world estate.old) (E.world estate.new) }
+    ensures writes { Leads KeepsUnlessFresh (E.world estate.old) (E.world estate.new) }
+    ensures unchanged { OnErr result (IsErrOf result LogError.Fault
+        ⊎ Leads Stays (E.world estate.old) (E.world estate.new)) }
+    ensures answer { IsTrue (E.world estate.old).told →
+        AnswersLog (λ started. started.1) (E.world estate.old).holding.log result }
+    ensures started { IfOk result (λ started. IsStarted started.0.end (E.world estate.new)) }
+    ensures end { IfOk result (λ started. started.0.end ≡ blocks_size started.1) }
 
     // once it is started, each image has the blocks that are answered
-    ensures lands { IfOk result (λ made. (image : Holding) → (E.world estate.new).images (E.world estate.new).now image → blocks_of image.log ≡ Some made.1) }
-    ensures fault { IsErrOf result LogError.Fault → Rose (E.world estate.old).counts.log_faults (E.world estate.new).counts.log_faults }
+    ensures lands { IfOk result (λ started. HasBlocks (Some started.1) (E.world estate.new)) }
+    ensures fault { IsErrOf result LogError.Fault → LogRose (E.world estate.old) (E.world estate.new) }
     ensures met { AnswersFaults (E.world estate.old) (E.world estate.new) result }
 {
     estate.log_sync()?;
@@ -62,9 +65,10 @@ pub fn start<E: Estate>(alloc: Global, estate: &mut E) -> Result<(Log, Blocks), 
 // All bytes of the log; of a fresh one nothing is read.
 fn read_log<E: Estate>(estate: &mut E) -> Result<Option<Bytes>, LogError>
     ensures leads { Leads Stays (E.world estate.old) (E.world estate.new) }
-    ensures bytes { IsTrue (E.world estate.old).told → AnswersBytes (E.world estate.old).holding.log result }
+    ensures bytes { IsTrue (E.world estate.old).told →
+        AnswersBytes (E.world estate.old).holding.log result }
     ensures limit { IfOk result (λ found. IfSome found (λ bytes. length bytes ≤ LOG_LIMIT)) }
-    ensures fault { IsErrOf result LogError.Fault → Rose (E.world estate.old).counts.log_faults (E.world estate.new).counts.log_faults }
+    ensures fault { IsErrOf result LogError.Fault → LogRose (E.world estate.old) (E.world estate.new) }
     ensures met { AnswersFaults (E.world estate.old) (E.world estate.new) result }
 {
     let len = estate.log_len()?;
@@ -83,11 +87,12 @@ fn read_log<E: Estate>(estate: &mut E) -> Result<Option<Bytes>, LogError>
 // Writes the closed gate of a log that has at most one byte.
 fn close_fresh<E: Estate>(alloc: Global, estate: &mut E) -> Result<(), EstateError>
     requires fresh { IsTrue (E.world estate.old).told → length (E.world estate.old).holding.log ≤ 1 }
-    requires synced { IsSynced (E.world estate.old) }
-    ensures writes { Leads (Step StaysFresh None None) (E.world estate.old) (E.world estate.new) }
-    ensures memory { IsErrOf result estate_error.NoMemory → Leads Stays (E.world estate.old) (E.world estate.new) }
+    requires synced { IsDurable (E.world estate.old) }
+    ensures writes { Leads KeepsUnlessFresh (E.world estate.old) (E.world estate.new) }
+    ensures memory { IsErrOf result estate_error.NoMemory →
+        Leads Stays (E.world estate.old) (E.world estate.new) }
     ensures started { OnOk result (IsStarted 0 (E.world estate.new)) }
-    ensures cause { HasCause (E.world estate.old).counts.log_faults (E.world estate.new).counts.log_faults result }
+    ensures cause { LogCause (E.world estate.old) (E.world estate.new) result }
     ensures steady { LogSteady (E.world estate.old) (E.world estate.new) result }
 {
     let gate = Bytes::from_slice(alloc, &[0])?;

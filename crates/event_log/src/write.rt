@@ -1,8 +1,8 @@
 ghost use Rattle.std.specs.Prelude.{◌≡◌, ◌≤◌, ◌++◌, [], ◌∷◌, length, None, IsTrue, IfOk, OnOk, IsErrOf};
 ghost use Rattle.estate.specs.declared.estate_error.EstateError.TheVariants as estate_error;
-ghost use Rattle.estate.specs.Holding.{Holding};
-ghost use Rattle.estate.specs.Changes.{Step, Stays, Leads, Torn, Holds, HasCause, LogSteady};
+ghost use Rattle.estate.specs.Changes.{Stays, Leads, Writes, LogCause, LogSteady};
 ghost use Rattle.event_log.specs.Blocks.{frame};
+ghost use Rattle.event_log.specs.Started.{HasWritten};
 
 use estate::{Estate, EstateError};
 use row_core::{Bytes, NoMemory};
@@ -22,11 +22,12 @@ pub fn staged(alloc: Global, body: &Bytes) -> Result<Bytes, NoMemory>
 /// A write, and then a sync.
 pub fn write_synced<E: Estate>(estate: &mut E, at: u64, bytes: &Bytes) -> Result<(), EstateError>
     requires { IsTrue (E.world estate.old).told → at ≤ length (E.world estate.old).holding.log }
-    ensures leads { Leads (Step (Torn at (length bytes.now)) None None) (E.world estate.old) (E.world estate.new) }
-    ensures durable { OnOk result (IsTrue (E.world estate.old).told → (image : Holding) → (E.world estate.new).images (E.world estate.new).now image →
-        Holds (E.world estate.old).holding.log at bytes.now image.log) }
-    ensures memory { IsErrOf result estate_error.NoMemory → Leads Stays (E.world estate.old) (E.world estate.new) }
-    ensures cause { HasCause (E.world estate.old).counts.log_faults (E.world estate.new).counts.log_faults result }
+    ensures leads { Leads (Writes at bytes.now) (E.world estate.old) (E.world estate.new) }
+    ensures durable { OnOk result (IsTrue (E.world estate.old).told →
+        HasWritten at bytes.now (E.world estate.old) (E.world estate.new)) }
+    ensures memory { IsErrOf result estate_error.NoMemory →
+        Leads Stays (E.world estate.old) (E.world estate.new) }
+    ensures cause { LogCause (E.world estate.old) (E.world estate.new) result }
     ensures steady { LogSteady (E.world estate.old) (E.world estate.new) result }
 {
     estate.log_write(at, bytes)?;

@@ -1,7 +1,7 @@
-ghost use Rattle.std.specs.Prelude.{◌≡◌, ◌++◌, [], ◌∷◌, Ok, None, IsTrue, IsSome, IsErrOf};
-ghost use Rattle.estate.specs.Holding.{Holding, job_under};
-ghost use Rattle.estate.specs.Changes.{Step, Stays, Leads, Same, Rose};
-ghost use Rattle.sink_commit.specs.Answers.{Answers, AnswersFaults, commit_of, may_add};
+ghost use Rattle.std.specs.Prelude.{◌≡◌, Ok, IsTrue, IsSome, IsErrOf};
+ghost use Rattle.estate.specs.Holding.{job_under, commit_of};
+ghost use Rattle.estate.specs.Changes.{Stays, Leads, SinkRose};
+ghost use Rattle.sink_commit.specs.Answers.{Answers, AnswersFaults, AddsAs, Lands};
 
 use crate::{CommitError, Committed};
 use estate::Estate;
@@ -16,21 +16,22 @@ pub fn commit_once<E: Estate>(
     text: &Bytes,
 ) -> Result<Committed, CommitError>
     ensures answer { IsTrue (E.world estate.old).told →
-        Answers (commit_of id.now job.now text.now) (E.world estate.old).holding.commits (E.world estate.new).holding.commits result }
+        Answers (commit_of id.now job.now text.now) (E.world estate.old) (E.world estate.new) result }
 
-    // each image since the start is one of the start, alone or, at the answers that allow it, with the commit
-    ensures adds { Leads (Step Same None (may_add (commit_of id.now job.now text.now) result)) (E.world estate.old) (E.world estate.new) }
+    // each image since the start is one of the start, alone or, where the answer allows it, with the commit
+    ensures adds { Leads (AddsAs (commit_of id.now job.now text.now) result)
+        (E.world estate.old) (E.world estate.new) }
 
     // whatever the answer, nothing is added where a commit of the id stands
-    ensures asks { IsTrue (E.world estate.old).told → IsSome (job_under id.now (E.world estate.old).holding.commits) →
+    ensures asks { IsTrue (E.world estate.old).told →
+        IsSome (job_under id.now (E.world estate.old).holding.commits) →
         Leads Stays (E.world estate.old) (E.world estate.new) }
 
     // once it is appended, each image has it
     ensures lands { result ≡ Ok Committed.Fresh → IsTrue (E.world estate.old).told →
-        (image : Holding) → (E.world estate.new).images (E.world estate.new).now image →
-        image.commits ≡ (E.world estate.old).holding.commits ++ commit_of id.now job.now text.now ∷ [] }
+        Lands (commit_of id.now job.now text.now) (E.world estate.old) (E.world estate.new) }
 
-    ensures fault { IsErrOf result CommitError.SinkFault → Rose (E.world estate.old).counts.sink_faults (E.world estate.new).counts.sink_faults }
+    ensures fault { IsErrOf result CommitError.SinkFault → SinkRose (E.world estate.old) (E.world estate.new) }
     ensures met { AnswersFaults (E.world estate.old) (E.world estate.new) result }
 {
     match estate.sink_committed(id)? {

@@ -10,8 +10,8 @@ pub returns-clause-placed : goal.returns-clause-placed
 returns-clause-placed c =
     let same = c.as_slice-place.ensures.value ∙ c.reserve.ensures.items in
     placed_add c.args.places.now c.note.new.places c.args.parts.now.items _ c.args.part _ c.requires.placed (ap (λ (l : List Shelved). length l) same)
-    (c.push_within.ensures ∙ ap (λ (l : List Shelved). l ++ c.args.part ∷ []) c.reserve.ensures.items) c.in_ok-note.ensures.ok c.requires.fresh
+    (c.push_reserved.ensures.items ∙ ap (λ (l : List Shelved). l ++ c.args.part ∷ []) c.reserve.ensures.items) c.in_ok-note.ensures.ok c.requires.fresh
 
 pub returns-clause-distinct : goal.returns-clause-distinct
 returns-clause-distinct c =
-    distinct_add c.args.parts.now.items _ c.args.part (c.push_within.ensures ∙ ap (λ (l : List Shelved). l ++ c.args.part ∷ []) c.reserve.ensures.items) c.requires.distinct c.requires.fresh
+    distinct_add c.args.parts.now.items _ c.args.part (c.push_reserved.ensures.items ∙ ap (λ (l : List Shelved). l ++ c.args.part ∷ []) c.reserve.ensures.items) c.requires.distinct c.requires.fresh

@@ -91,7 +91,7 @@ returns-in-Ok-clause-started g c told =
     let told_b = subst (λ t. IsTrue t) (c.read_log.ensures.leads.time).told told in
     let bytes = bytes_of _ _ _ c.in-Some.is (c.in_ok-read_log.ensures.bytes told_b) in
     read_started _ _ _ _ (c.as_slice.ensures ∙ bytes.0 ∙ sym (c.read_log.ensures.leads.holding told_b).log) c.in-Ok.ensures
-    (synced_stays _ _ (g.met.E.Estate.lawful c.read_log.new.estate) c.read_log.ensures.leads (record { same = c.in_ok-log_sync.ensures.durable }))
+    (synced_stays _ _ (g.met.E.Estate.lawful c.read_log.new.estate) c.read_log.ensures.leads c.in_ok-log_sync.ensures.durable)
 
 pub invariant_of-result-in-Ok : goal.invariant_of-result-in-Ok
 invariant_of-result-in-Ok g c =

@@ -16,20 +16,20 @@ invariant_of-self-clause-ended c =
     let loses = loses_from c.args.name (c.clock-since.result + 1) m.shelf.parts.items new (c.lose.ensures.lost c.if-lose.true) in
     let enters = enters_by m.log.changes.items m.shelf.parts.items new m.sink.items (clock_of m) c.clock-since.result m.log_faults m.shelf_faults m.sink_faults m.losses c.saturating_add-self.result
     c.clock-since.ensures.clock loses (omega arith) (λ name has. inr (rose_by m.losses c.saturating_add-self.result c.saturating_add-self.ensures)) in
-    let later = 2 * m.calls.count + length c.push_within.new.drops.items in
-    let time : later ≡ clock_of m + 1 = omega (arith, ap (λ (l : List ℕ). length l) c.push_within.ensures.items, length-append m.drops.items (2 * m.calls.count ∷ [])) in
+    let later = 2 * m.calls.count + length c.push_reserved.new.self.items in
+    let time : later ≡ clock_of m + 1 = omega (arith, ap (λ (l : List ℕ). length l) c.push_reserved.ensures.items, length-append m.drops.items (2 * m.calls.count ∷ [])) in
     let ended = ended_later (history_of m) _ (clock_of m) later (counts_of m) _ m.ended enters (omega arith) in
     ended
 
-pub push_within-requires : goal.push_within-requires
-push_within-requires c =
+pub push_reserved-requires : goal.push_reserved-requires
+push_reserved-requires c =
     let m = c.args.self.now in
     omega (arith, m.room, loses_count c.args.name (c.clock-since.result + 1) m.shelf.parts.items c.lose.new.self.parts.items (c.lose.ensures.lost c.if-lose.true))
 
 pub invariant_of-self-clause-room : goal.invariant_of-self-clause-room
 invariant_of-self-clause-room c =
     let m = c.args.self.now in
-    omega (arith, m.room, c.push_within.ensures.len, c.push_within.ensures.capacity, loses_count c.args.name (c.clock-since.result + 1) m.shelf.parts.items c.lose.new.self.parts.items (c.lose.ensures.lost c.if-lose.true))
+    omega (arith, m.room, c.push_reserved.ensures.len, c.push_reserved.ensures.capacity, loses_count c.args.name (c.clock-since.result + 1) m.shelf.parts.items c.lose.new.self.parts.items (c.lose.ensures.lost c.if-lose.true))
 
 pub returns-then-lose-clause-leads : goal.returns-then-lose-clause-leads
 returns-then-lose-clause-leads c =
@@ -38,8 +38,8 @@ returns-then-lose-clause-leads c =
     let loses = loses_from c.args.name (c.clock-since.result + 1) m.shelf.parts.items new (c.lose.ensures.lost c.if-lose.true) in
     let enters = enters_by m.log.changes.items m.shelf.parts.items new m.sink.items (clock_of m) c.clock-since.result m.log_faults m.shelf_faults m.sink_faults m.losses c.saturating_add-self.result
     c.clock-since.ensures.clock loses (omega arith) (λ name has. inr (rose_by m.losses c.saturating_add-self.result c.saturating_add-self.ensures)) in
-    let later = 2 * m.calls.count + length c.push_within.new.drops.items in
-    let time : later ≡ clock_of m + 1 = omega (arith, ap (λ (l : List ℕ). length l) c.push_within.ensures.items, length-append m.drops.items (2 * m.calls.count ∷ [])) in
+    let later = 2 * m.calls.count + length c.push_reserved.new.self.items in
+    let time : later ≡ clock_of m + 1 = omega (arith, ap (λ (l : List ℕ). length l) c.push_reserved.ensures.items, length-append m.drops.items (2 * m.calls.count ∷ [])) in
     let ended = ended_later (history_of m) _ (clock_of m) later (counts_of m) _ m.ended enters (omega arith) in
     enter_leads (history_of m) _ (clock_of m) later (counts_of m) _ m.ended ended (omega arith) enters
 
@@ -50,8 +50,8 @@ returns-then-lose-clause-gone c =
     let loses = loses_from c.args.name (c.clock-since.result + 1) m.shelf.parts.items new (c.lose.ensures.lost c.if-lose.true) in
     let enters = enters_by m.log.changes.items m.shelf.parts.items new m.sink.items (clock_of m) c.clock-since.result m.log_faults m.shelf_faults m.sink_faults m.losses c.saturating_add-self.result
     c.clock-since.ensures.clock loses (omega arith) (λ name has. inr (rose_by m.losses c.saturating_add-self.result c.saturating_add-self.ensures)) in
-    let later = 2 * m.calls.count + length c.push_within.new.drops.items in
-    let time : later ≡ clock_of m + 1 = omega (arith, ap (λ (l : List ℕ). length l) c.push_within.ensures.items, length-append m.drops.items (2 * m.calls.count ∷ [])) in
+    let later = 2 * m.calls.count + length c.push_reserved.new.self.items in
+    let time : later ≡ clock_of m + 1 = omega (arith, ap (λ (l : List ℕ). length l) c.push_reserved.ensures.items, length-append m.drops.items (2 * m.calls.count ∷ [])) in
     let ended = ended_later (history_of m) _ (clock_of m) later (counts_of m) _ m.ended enters (omega arith) in
     λ has. c.lose.ensures.gone (subst (λ (l : List PartName). Contains l c.args.name) (held_after later new ended.shelf) has)
 
@@ -62,8 +62,8 @@ returns-then-lose-clause-others c = λ other apart had.
     let loses = loses_from c.args.name (c.clock-since.result + 1) m.shelf.parts.items new (c.lose.ensures.lost c.if-lose.true) in
     let enters = enters_by m.log.changes.items m.shelf.parts.items new m.sink.items (clock_of m) c.clock-since.result m.log_faults m.shelf_faults m.sink_faults m.losses c.saturating_add-self.result
     c.clock-since.ensures.clock loses (omega arith) (λ name has. inr (rose_by m.losses c.saturating_add-self.result c.saturating_add-self.ensures)) in
-    let later = 2 * m.calls.count + length c.push_within.new.drops.items in
-    let time : later ≡ clock_of m + 1 = omega (arith, ap (λ (l : List ℕ). length l) c.push_within.ensures.items, length-append m.drops.items (2 * m.calls.count ∷ [])) in
+    let later = 2 * m.calls.count + length c.push_reserved.new.self.items in
+    let time : later ≡ clock_of m + 1 = omega (arith, ap (λ (l : List ℕ). length l) c.push_reserved.ensures.items, length-append m.drops.items (2 * m.calls.count ∷ [])) in
     let ended = ended_later (history_of m) _ (clock_of m) later (counts_of m) _ m.ended enters (omega arith) in
     subst (λ (l : List PartName). Contains l other) (sym (held_after later new ended.shelf))
     (c.lose.ensures.others other apart (subst (λ (l : List PartName). Contains l other) (held_after (clock_of m) m.shelf.parts.items m.ended.shelf) had))
@@ -84,5 +84,5 @@ returns-else-lose-clause-rose c = λ had.
 pub invariant_of-self-clause-dropped : goal.invariant_of-self-clause-dropped
 invariant_of-self-clause-dropped c =
     let m = c.args.self.now in
-    subst (λ (l : List ℕ). All (λ d. d ≤ 2 * m.calls.count) l) (sym c.push_within.ensures.items)
+    subst (λ (l : List ℕ). All (λ d. d ≤ 2 * m.calls.count) l) (sym c.push_reserved.ensures.items)
     (All-push (λ (d : ℕ). d ≤ 2 * m.calls.count) m.drops.items (2 * m.calls.count) m.dropped (omega arith))

@@ -10,7 +10,8 @@ use Rattle.estate.specs.Shelf.{held_in, stored, HasHappened}
 use Rattle.estate.specs.PastLaws.{past_lawful}
 use Rattle.estate.specs.Changes.{Same}
 use Rattle.estate.specs.Memory.{mem_world, history_of, clock_of, counts_of}
-use Rattle.estate.proofs.Laws.{leads_more}
+use Rattle.estate.proofs.Laws.{leads_more, leads_start}
+use Rattle.estate.proofs.Due.{due_put}
 use Rattle.estate.proofs.Stepping.{log_same, sink_same, held_after, happened_until, all_until}
 use Rattle.estate.proofs.Losing.{shelf_puts, held_add, happened_add, fresh_by}
 use Rattle.estate.proofs.Recalling.{held_few}
@@ -144,3 +145,24 @@ pub invariant_of-self-2-clause-dropped : goal.invariant_of-self-2-clause-dropped
 invariant_of-self-2-clause-dropped c =
     let mid = c.enter_shelf.new.self in
     subst (λ (l : List ℕ). All (λ d. d ≤ 2 * mid.calls.count) l) (sym c.reserve.ensures.items) mid.dropped
+
+pub returns-clause-call : goal.returns-clause-call
+returns-clause-call c =
+    let old = c.args.self.now in
+    let mid = c.enter_shelf.new.self in
+    let name = c.args.name in
+    let call = c.in_ok-enter_shelf.ensures.call in
+    let since = c.clock-exit.result in
+    let at_exit : since ≡ clock_of mid = c.clock-exit.ensures.clock in
+    let later = 2 * mid.calls.count + length c.reserve.new.self.items in
+    let time : later ≡ clock_of mid = omega (arith, ap (λ (l : List ℕ). length l) c.reserve.ensures.items) in
+    let happened = happened_until (clock_of mid) later mid.shelf.parts.items (omega arith) mid.ended.shelf in
+    let new = c.add.new.self.parts.items in
+    let happened_new = happened_add later mid.shelf.parts.items new since name c.in_ok-edges.edges c.in_ok-add.ensures.ok (omega arith) happened in
+    let fresh = not_held (mem_world old) (mem_world old) name (past_lawful (history_of old) (clock_of old) (counts_of old) old.shelf.distinct) (leads_start (mem_world old)) refl refl (c.requires refl) in (
+      call.0,
+      call.1,
+      λ lt. due_put _ _ _ _ _ name (call.2 lt) fresh
+          (held_after later new happened_new ∙ held_add mid.shelf.parts.items new since name c.in_ok-edges.edges c.in_ok-add.ensures.ok
+          ∙ ap (λ (l : List PartName). l ++ name ∷ []) (sym (held_after (clock_of mid) mid.shelf.parts.items mid.ended.shelf))),
+    )

@@ -17,5 +17,5 @@ invariant_of-self-2-clause-is c =
     let first : c.as_slice.result.now ≡ c.args.bytes.now = c.as_slice.ensures in
     let second : c.as_slice-2.result.now ≡ c.args.bytes.now = c.as_slice-2.ensures in
     let bytes : c.as_slice-2.result.now ≡ c.in_ok-from_slice.field-0 = second ∙ sym first ∙ sym copied in
-    let after = whole_write old c.push_within.new.changes.items c.args.since write (c.push_within.ensures.items ∙ ap (λ (l : List LogChange). l ++ one ∷ []) c.reserve.ensures.items) in
+    let after = whole_write old c.push_reserved.new.self.items c.args.since write (c.push_reserved.ensures.items ∙ ap (λ (l : List LogChange). l ++ one ∷ []) c.reserve.ensures.items) in
     written ∙ ap (λ l. overwritten l c.args.at c.as_slice-2.result.now) was ∙ ap (λ l. overwritten (whole_log (disk_of old)) c.args.at l) bytes ∙ sym after
