@@ -204,7 +204,7 @@ fn commits_the_job_as_it_is_printed(rt: HostRuntime) -> Result<(), Fail> {
 fn refuses_with_a_line(rt: HostRuntime) -> Result<(), Fail> {
     let alloc = rt.alloc();
     let none = over(JOB.as_bytes(), ORDERS);
-    let cases: [(&str, Given<'_>, u8, &str, usize); 15] = [
+    let cases: [(&str, Given<'_>, u8, &str, usize); 12] = [
         ("", none, 1, "usage at=0 unknown-command\n", 0),
         ("run run run", none, 1, "usage at=1 unknown-word\n", 0),
         ("run --workers 65", none, 1, "usage at=2 bad-number\n", 0),
@@ -219,27 +219,6 @@ fn refuses_with_a_line(rt: HostRuntime) -> Result<(), Fail> {
         ("run --workers 1", none, 18, "not-built workers\n", 0),
         ("generate 10", none, 18, "not-built generate\n", 0),
         ("events", none, 18, "not-built events\n", 0),
-        (
-            "run",
-            over(b"[", &[]),
-            2,
-            "job-refused not-json node=- name=-\n",
-            0,
-        ),
-        (
-            "check",
-            over(b"{\"job\":\"a\",\"nodes\":[{\"op\":\"sort\"}]}", &[]),
-            2,
-            "job-refused unknown-op node=0 name=op\n",
-            0,
-        ),
-        (
-            "plan",
-            over(b"{\"job\":\"a\",\"nodes\":[]}", &[]),
-            2,
-            "job-refused no-sink node=- name=-\n",
-            0,
-        ),
         (
             "run",
             Given {
@@ -288,6 +267,33 @@ fn refuses_with_a_line(rt: HostRuntime) -> Result<(), Fail> {
         assert_eq!(rt; status, wanted, "{line}");
         assert_eq!(rt; printed.as_slice(), told.as_bytes(), "{line}");
         assert_eq!(rt; estate.commits()?.as_slice().len(), wanted_commits);
+    }
+    Ok(())
+}
+
+#[test]
+fn refuses_jobs(rt: HostRuntime) -> Result<(), Fail> {
+    let alloc = rt.alloc();
+    let cases: [(&str, &str, &str); 3] = [
+        ("run", "[", "job-refused not-json node=- name=-\n"),
+        (
+            "check",
+            "{\"job\":\"a\",\"nodes\":[{\"op\":\"sort\"}]}",
+            "job-refused unknown-op node=0 name=op\n",
+        ),
+        (
+            "plan",
+            "{\"job\":\"a\",\"nodes\":[]}",
+            "job-refused no-sink node=- name=-\n",
+        ),
+    ];
+    for (line, job, told) in cases {
+        let mut estate = new_estate(alloc, &[])?;
+        let words = words_of(alloc, line)?;
+        let given = over(job.as_bytes(), &[]);
+        let (status, printed) = serve_words(alloc, words.as_slice(), &mut estate, given)?;
+        assert_eq!(rt; status, 2, "{line}");
+        assert_eq!(rt; printed.as_slice(), told.as_bytes(), "{line}");
     }
     Ok(())
 }
