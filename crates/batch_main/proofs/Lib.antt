@@ -1,5 +1,5 @@
-mod CauseLemmas
 mod Committing
+mod Ends
 mod LookClauses
 mod OneCommit
 mod OwnTables

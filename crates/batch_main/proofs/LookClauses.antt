@@ -1,81 +1,115 @@
--- The clauses of a look, from the cause of its answer.
-use Rattle.std.proofs.Common.{◌≡◌, ◌⊎◌, inl, inr, ℕ, Some, None, Result, Ok, Err, IsTrue, Contains, [], ◌∷◌, refl, sym, ◌∙◌, ap, arith}
+-- The clauses of a look, from how it ends.
+use Rattle.std.proofs.Common.{◌≡◌, ℕ, Option, true, false, Result, Ok, Err, IsTrue, Contains, List, [], ◌∷◌, ◌++◌, refl, sym, subst, ◌∙◌, ap, arith}
 use Rattle.std.specs.Prelude.{IsOk, IfErr}
 use Rattle.std.proofs.lemmas.Option.{same_Some}
+use Rattle.batch_words.specs.declared.word_kind.WordKind.{WordKind}
+use Rattle.estate.specs.Changes.{Rose}
 use Rattle.estate.specs.Contents.{Contents}
 use Rattle.estate.specs.Printed.{Printed}
-use Rattle.batch_main.specs.Causes.{Cause, HasFault, WhyNotShown}
-use Rattle.batch_main.specs.Orders.{view_refusal}
-use Rattle.batch_main.specs.Refusals.{answer_to}
+use Rattle.job_json.specs.declared.job.Job.{Job}
+use Rattle.batch_main.specs.Causes.{HasFault, LookCause, Outside}
+use Rattle.batch_main.specs.Jobs.{IsAccepted}
+use Rattle.batch_main.specs.Orders.{view_of}
+use Rattle.batch_main.specs.Outcomes.{LookOutcome}
+use Rattle.batch_main.specs.Printing.{Prints}
+use Rattle.batch_main.specs.Refusals.{job_answer, word_answer}
 use Rattle.batch_main.specs.Views.{ShowsAsked}
 use Rattle.batch_main.specs.declared.answer.Answer.{Answer}
-use Rattle.batch_main.specs.declared.answer.Answer.TheVariants as answer
+use Rattle.batch_main.specs.declared.answer.Answer.TheVariants.{Finished, Shown, Usage, JobRefused, SinkFault, InputFault, PrintFault, NotBuilt, NoMemory}
 use Rattle.batch_main.specs.declared.job_refusal.JobRefusal.{JobRefusal}
-use Rattle.batch_main.specs.declared.refusal.Refusal.{Refusal}
-use Rattle.batch_main.specs.declared.refusal.Refusal.TheVariants as refusal
+use Rattle.batch_main.specs.declared.refused_kind.RefusedKind.{RefusedKind}
 use Rattle.batch_main.specs.declared.unbuilt.Unbuilt.{Unbuilt}
 use Rattle.batch_main.specs.declared.view.View.{View}
+use Rattle.batch_main.specs.declared.word_refusal.WordRefusal.{WordRefusal}
+use Rattle.batch_main.specs.declared.word_refusal.WordRefusal.TheVariants as words_refused
 use Rattle.batch_main.proofs.RunClauses.{not_both}
 
-module _ (inputs after : Contents) (before printed : Printed) where
-  abbrev pub IsCaused : Result View Refusal → Answer → Type 0
-  IsCaused asked given = Cause (view_refusal asked) answer.Shown (ShowsAsked asked inputs) (WhyNotShown inputs after) before printed given
+abbrev refusing : WordRefusal → Result View WordRefusal
+refusing r = Err r
 
-  told_words : (r s : Refusal) → view_refusal (Err r) ≡ Some s → Contains (answer_to r ∷ answer.NoMemory ∷ []) (answer_to s)
-  told_words r s told = (0, omega arith, ap answer_to (same_Some r s told))
+-- words that are refused ask for nothing
+not_asked : (r : WordRefusal) → IsOk (refusing r) → ⊥
+not_asked r ok = let impossible : false ≡ true = ok in cc
 
-  words_of : (r : Refusal) (given : Answer) → IsCaused (Err r) given → Contains (answer_to r ∷ answer.NoMemory ∷ []) given
-  words_of r answer.Finished c = absurd (cc c.0)
-  words_of r answer.Shown c = absurd (cc (c.1).1)
-  words_of r answer.PrintFault c = absurd (cc c.1)
-  words_of r (answer.Usage at kind) c = told_words r (refusal.Usage at kind) c.0
-  words_of r (answer.JobRefused kind at name) c = absurd (cc (c.0).0)
-  words_of r answer.SinkFault c = absurd (cc (c.0).0)
-  words_of r answer.InputFault c = absurd (cc (c.0).0)
-  words_of r (answer.NotBuilt what) c = by c.0
-    where
-      by : (view_refusal (Err r) ≡ Some (refusal.NotBuilt what)) ⊎ ((view_refusal (Err r) ≡ None) × WhyNotShown inputs after (refusal.NotBuilt what)) → Contains (answer_to r ∷ answer.NoMemory ∷ []) (answer.NotBuilt what)
-      by (inl told) = told_words r (refusal.NotBuilt what) told
-      by (inr (none, why)) = absurd why
-  words_of r answer.NoMemory c = (1, omega arith, refl)
+module _ (text : List ℕ) (old new : Contents) where
+  words_at : (r : WordRefusal) (given : Answer) → LookCause (Err r) text old new given → Contains (word_answer r ∷ NoMemory ∷ []) given
+  words_at r Finished c = absurd c
+  words_at r Shown c = absurd c
+  words_at r PrintFault c = absurd c
+  words_at r (Usage at kind) c = let same : r ≡ words_refused.Usage at kind = cc c in (0, omega arith, ap word_answer same)
+  words_at r (JobRefused kind at name) c = absurd (not_asked r c.0)
+  words_at r SinkFault c = absurd c
+  words_at r InputFault c = absurd (not_asked r c.0)
+  words_at r (NotBuilt what) c = let same : r ≡ words_refused.NotBuilt what = cc c in (0, omega arith, ap word_answer same)
+  words_at r NoMemory c = (1, omega arith, refl)
 
-  pub words_refused : (asked : Result View Refusal) (given : Answer) → IsCaused asked given → IfErr asked (λ r. Contains (answer_to r ∷ answer.NoMemory ∷ []) given)
-  words_refused (Ok view) given c = tt
-  words_refused (Err r) given c = words_of r given c
+  pub words_refuse : (asked : Result View WordRefusal) (given : Answer) → LookCause asked text old new given
+      → IfErr asked (λ r. Contains (word_answer r ∷ NoMemory ∷ []) given)
+  words_refuse (Ok view) given c = tt
+  words_refuse (Err r) given c = words_at r given c
 
-  err_of : (asked : Result View Refusal) (r : Refusal) → view_refusal asked ≡ Some r → asked ≡ Err r
-  err_of (Ok view) r is = absurd (cc is)
-  err_of (Err s) r is = ap Err (same_Some s r is)
+  refused_at : (view : View) (fault : JobRefusal) (given : Answer) → LookCause (Ok view) text old new given → IsTrue old.told → HasFault old fault
+      → Contains (job_answer fault ∷ InputFault ∷ NoMemory ∷ []) given
+  refused_at view fault Finished c told has = absurd c
+  refused_at view fault Shown c told has = let j = c told in absurd (not_both old.job j.0 fault j.1 (has told))
+  refused_at view fault PrintFault c told has = let j = c told in absurd (not_both old.job j.0 fault j.1 (has told))
+  refused_at view fault (Usage at kind) c told has = absurd (cc c)
+  refused_at view fault (JobRefused kind at name) c told has =
+      (0, omega arith, ap job_answer (same_Some fault (record { kind = kind; node = at; name = name }) (sym (has told) ∙ c.1 told)))
+  refused_at view fault SinkFault c told has = absurd c
+  refused_at view fault InputFault c told has = (1, omega arith, refl)
+  refused_at view fault (NotBuilt what) c told has = absurd (cc c)
+  refused_at view fault NoMemory c told has = (2, omega arith, refl)
 
-  pub usage_words : (asked : Result View Refusal) (at : ℕ) (kind : _) → IsCaused asked (answer.Usage at kind) → asked ≡ Err (refusal.Usage at kind)
-  usage_words asked at kind c = err_of asked (refusal.Usage at kind) c.0
-
-  pub unbuilt_words : (asked : Result View Refusal) (what : Unbuilt) → IsCaused asked (answer.NotBuilt what) → asked ≡ Err (refusal.NotBuilt what)
-  unbuilt_words asked what c = by c.0
-    where
-      by : (view_refusal asked ≡ Some (refusal.NotBuilt what)) ⊎ ((view_refusal asked ≡ None) × WhyNotShown inputs after (refusal.NotBuilt what)) → asked ≡ Err (refusal.NotBuilt what)
-      by (inl told) = err_of asked (refusal.NotBuilt what) told
-      by (inr (none, why)) = absurd why
-
-  refused_at : (view : View) (fault : JobRefusal) (given : Answer) → IsCaused (Ok view) given → IsTrue inputs.told → HasFault inputs fault
-      → Contains (answer_to (refusal.JobRefused fault) ∷ answer.InputFault ∷ answer.NoMemory ∷ []) given
-  refused_at view fault answer.Finished c told has = absurd (cc c.0)
-  refused_at view fault answer.Shown c told has = let j = (c.1).2 told in absurd (not_both inputs.job j.0 fault j.1 (has told))
-  refused_at view fault answer.PrintFault c told has = let j = c.2 told in absurd (not_both inputs.job j.0 fault j.1 (has told))
-  refused_at view fault (answer.Usage at kind) c told has = absurd (cc c.0)
-  refused_at view fault (answer.JobRefused kind at name) c told has =
-      (0, omega arith, ap (λ (f : JobRefusal). answer_to (refusal.JobRefused f)) (same_Some fault (record { kind = kind; node = at; name = name }) (sym (has told) ∙ (c.0).1 told)))
-  refused_at view fault answer.SinkFault c told has = absurd (c.0).1
-  refused_at view fault answer.InputFault c told has = (1, omega arith, refl)
-  refused_at view fault (answer.NotBuilt what) c told has = by c.0
-    where
-      by : (view_refusal (Ok view) ≡ Some (refusal.NotBuilt what)) ⊎ ((view_refusal (Ok view) ≡ None) × WhyNotShown inputs after (refusal.NotBuilt what))
-          → Contains (answer_to (refusal.JobRefused fault) ∷ answer.InputFault ∷ answer.NoMemory ∷ []) (answer.NotBuilt what)
-      by (inl is) = absurd (cc is)
-      by (inr (none, why)) = absurd why
-  refused_at view fault answer.NoMemory c told has = (2, omega arith, refl)
-
-  pub refused_always : (asked : Result View Refusal) (fault : JobRefusal) (given : Answer) → IsCaused asked given → IsOk asked → IsTrue inputs.told → HasFault inputs fault
-      → Contains (answer_to (refusal.JobRefused fault) ∷ answer.InputFault ∷ answer.NoMemory ∷ []) given
+  pub refused_always : (asked : Result View WordRefusal) (fault : JobRefusal) (given : Answer) → LookCause asked text old new given → IsOk asked
+      → IsTrue old.told → HasFault old fault → Contains (job_answer fault ∷ InputFault ∷ NoMemory ∷ []) given
   refused_always (Ok view) fault given c ok told has = refused_at view fault given c told has
-  refused_always (Err r) fault given c ok told has = absurd (cc ok)
+  refused_always (Err r) fault given c ok told has = absurd (not_asked r ok)
+
+  completes_at : (view : View) (before after : Printed) (given : Answer) → LookCause (Ok view) text old new given → Prints text before after given
+      → IsTrue old.told → (job : Job) → IsAccepted old.job job → ¬ (Rose old.faults new.faults) → ¬ (Rose before.faults after.faults)
+      → Contains (Shown ∷ NoMemory ∷ []) given
+  completes_at view before after Finished c prints told job accepted reads shows = absurd c
+  completes_at view before after Shown c prints told job accepted reads shows = (0, omega arith, refl)
+  completes_at view before after PrintFault c prints told job accepted reads shows = absurd (shows prints.0)
+  completes_at view before after (Usage at kind) c prints told job accepted reads shows = absurd (cc c)
+  completes_at view before after (JobRefused kind at name) c prints told job accepted reads shows = absurd (not_both old.job job _ accepted (c.1 told))
+  completes_at view before after SinkFault c prints told job accepted reads shows = absurd c
+  completes_at view before after InputFault c prints told job accepted reads shows = absurd (reads c.1)
+  completes_at view before after (NotBuilt what) c prints told job accepted reads shows = absurd (cc c)
+  completes_at view before after NoMemory c prints told job accepted reads shows = (1, omega arith, refl)
+
+  pub completes : (asked : Result View WordRefusal) (before after : Printed) (given : Answer) → LookCause asked text old new given
+      → Prints text before after given → IsOk asked → IsTrue old.told → (job : Job) → IsAccepted old.job job
+      → ¬ (Rose old.faults new.faults) → ¬ (Rose before.faults after.faults) → Contains (Shown ∷ NoMemory ∷ []) given
+  completes (Ok view) before after given c prints ok told job accepted reads shows = completes_at view before after given c prints told job accepted reads shows
+  completes (Err r) before after given c prints ok told job accepted reads shows = absurd (not_asked r ok)
+
+module _ (words : List (List ℕ)) (old new : Outside) (before after : Printed) (given : Answer) (o : LookOutcome words old new before after given) where
+  caused : (answer : Answer) → given ≡ answer → LookCause (view_of words) o.text old.inputs new.inputs answer
+  caused answer is = subst (λ (a : Answer). LookCause (view_of words) o.text old.inputs new.inputs a) is o.cause
+
+  printed : (answer : Answer) → given ≡ answer → Prints o.text before after answer
+  printed answer is = subst (λ (a : Answer). Prints o.text before after a) is o.prints
+
+  pub shown : given ≡ Shown → IsTrue before.told → (text : List ℕ) × ShowsAsked (view_of words) old.inputs text × (after.bytes ≡ before.bytes ++ text)
+  shown is told = (o.text, caused Shown is, (printed Shown is).0 told)
+
+  pub usage : (at : ℕ) (kind : WordKind) → given ≡ Usage at kind → view_of words ≡ Err (words_refused.Usage at kind)
+  usage at kind is = caused (Usage at kind) is
+
+  pub not_built : (what : Unbuilt) → given ≡ NotBuilt what → view_of words ≡ Err (words_refused.NotBuilt what)
+  not_built what is = caused (NotBuilt what) is
+
+  pub refused_for : (kind : RefusedKind) (at : Option ℕ) (name : Option (List ℕ)) → given ≡ JobRefused kind at name
+      → HasFault old.inputs (record { kind = kind; node = at; name = name })
+  refused_for kind at name is = (caused (JobRefused kind at name) is).1
+
+  pub input_fault : given ≡ InputFault → Rose old.inputs.faults new.inputs.faults
+  input_fault is = (caused InputFault is).1
+
+  pub print_fault : given ≡ PrintFault → Rose before.faults after.faults
+  print_fault is = (printed PrintFault is).0
+
+  pub print_met : given ≡ Shown → after.faults ≡ before.faults
+  print_met is = (printed Shown is).1

@@ -1,5 +1,5 @@
 -- The text of a plan over its own tables alone.
-use Rattle.std.proofs.Common.{◌≡◌, ℕ, Bool, true, false, ◌||◌, not, filter, suc, IsTrue, All, subst, arith, append_assoc, List, [], ◌∷◌, ◌++◌, length, map, refl, sym, ap, ◌∙◌, if◌then◌else◌}
+use Rattle.std.proofs.Common.{◌≡◌, inl, inr, Result, Ok, Err, ℕ, Bool, true, false, ◌||◌, not, filter, suc, IsTrue, All, subst, arith, append_assoc, List, [], ◌∷◌, ◌++◌, length, map, refl, sym, ap, ◌∙◌, if◌then◌else◌}
 use Rattle.std.specs.List.{list_any, flat_map}
 use Rattle.std.specs.Str.{bytes_eq}
 use Rattle.std.proofs.lemmas.List.Folds.{list_any-append}
@@ -7,7 +7,10 @@ use Rattle.std.proofs.lemmas.List.Elements.{All-map}
 use Rattle.std.proofs.lemmas.Map.Views.{any-filter_same}
 use Rattle.std.proofs.lemmas.Slice.Eq.{bytes_eq-Decides}
 use Rattle.row_core.specs.declared.value.Value.{Value}
+use Rattle.estate.specs.Changes.{InputSteady}
 use Rattle.estate.specs.Contents.{Contents, KeepsContents}
+use Rattle.estate.specs.declared.input_error.InputError.{InputError}
+use Rattle.estate.specs.declared.input_error.InputError.TheVariants.{Failed}
 use Rattle.plan_eval.specs.Tables.{files_of}
 use Rattle.plan_eval.specs.declared.table_files.TableFiles.{TableFiles}
 use Rattle.plan_model.specs.Plans.{Bag, bag_at, bag_of, bags_from, committed_text, sink_sections}
@@ -113,6 +116,11 @@ listed_names files (name ∷ names) = ap (λ (rest : List (List ℕ)). name ∷ 
 -- a listed table says the number of its files
 pub listed_right : (files : List ℕ → List (List ℕ)) (names : List (List ℕ)) → All (λ table. table.files ≡ length (files table.table)) (listed files names)
 listed_right files names = All-map (λ (table : ListedTable). table.files ≡ length (files table.table)) (λ name. record { table = name; files = length (files name) }) names (λ k d lt. refl)
+
+-- a call that succeeds counts no fault
+pub steady_ok : {T : Type 0} (result : Result T InputError) (value : T) (before now : ℕ) → result ≡ Ok value → InputSteady before now result → now ≡ before
+steady_ok {T} result value before now is (inl failed) = let impossible : Ok value ≡ Err Failed = sym is ∙ failed in absurd (cc impossible)
+steady_ok result value before now is (inr same) = same
 
 -- what holds of all items holds of the first
 pub all_first : {A : Type 0} (P : A → Type 0) (x : A) (xs ys : List A) → ys ≡ x ∷ xs → All P ys → P x

@@ -86,7 +86,9 @@ abbrev pub line_of : List ℕ → Answer → List ℕ
 line_of job Finished = codes "finished job=" ++ job
 line_of job Shown = []
 line_of job (Usage at kind) = codes "usage at=" ++ decimal at ++ codes " " ++ usage_word kind
-line_of job (JobRefused kind at name) = codes "job-refused " ++ refused_word kind ++ codes " node=" ++ node_word at ++ codes " name=" ++ name_word name
+line_of job (JobRefused kind at name) =
+    codes "job-refused " ++ refused_word kind
+    ++ codes " node=" ++ node_word at ++ codes " name=" ++ name_word name
 line_of job SinkFault = codes "sink-fault"
 line_of job InputFault = codes "input-fault"
 line_of job PrintFault = []

@@ -8,8 +8,8 @@ use Rattle.plan_model.specs.Checks.{plan_faults}
 use Rattle.batch_main.specs.Refusals.{text_fault, plan_fault}
 use Rattle.batch_main.specs.declared.accepted_job.AcceptedJob.{AcceptedJob}
 use Rattle.batch_main.specs.declared.job_refusal.JobRefusal.{JobRefusal}
-use Rattle.batch_main.specs.declared.refusal.Refusal.{Refusal}
-use Rattle.batch_main.specs.declared.refusal.Refusal.TheVariants.{Usage, JobRefused, SinkFault, InputFault, NotBuilt, NoMemory}
+use Rattle.batch_main.specs.declared.not_accepted.NotAccepted.{NotAccepted}
+use Rattle.batch_main.specs.declared.not_accepted.NotAccepted.TheVariants.{Refused, NoMemory}
 
 -- the text is of this job, whose plan has no fault
 pub record IsAccepted (text : List ℕ) (job : Job) : Type 0 where
@@ -25,15 +25,12 @@ fault_in (Err fault) = Some (text_fault fault)
 abbrev pub fault_of : List ℕ → Option JobRefusal
 fault_of text = fault_in (job_in text)
 
--- the refusal is for the text's first fault, unless memory ran out
-abbrev pub IsRefusalOf : List ℕ → Refusal → Type 0
-IsRefusalOf text (JobRefused fault) = fault_of text ≡ Some fault
-IsRefusalOf text (Usage at kind) = ⊥
-IsRefusalOf text SinkFault = ⊥
-IsRefusalOf text InputFault = ⊥
-IsRefusalOf text (NotBuilt what) = ⊥
+-- a text is refused for its first fault, unless memory ran out
+abbrev pub IsRefusalOf : List ℕ → NotAccepted → Type 0
+IsRefusalOf text (Refused fault) = fault_of text ≡ Some fault
 IsRefusalOf text NoMemory = ⊤
 
 -- the job that was read
 abbrev pub job_of : AcceptedJob → Job
-job_of accepted = record { name = accepted.name; plan = accepted.plan; settings = accepted.settings }
+job_of accepted =
+    record { name = accepted.name; plan = accepted.plan; settings = accepted.settings }

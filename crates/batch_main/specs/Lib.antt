@@ -4,7 +4,8 @@ pub mod Commits
 pub mod FolderWorld
 pub mod Jobs
 pub mod Orders
+pub mod Outcomes
+pub mod Printing
 pub mod Refusals
 pub mod Tables
-pub mod Telling
 pub mod Views

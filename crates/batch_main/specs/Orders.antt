@@ -1,5 +1,5 @@
 -- What the words of a command ask of each call.
-use Rattle.std.specs.Prelude.{⊤, ℕ, ◌==◌, Bool, false, ◌||◌, List, [], ◌∷◌, codes, Option, Some, None, Result, Ok, Err, if◌then◌else◌}
+use Rattle.std.specs.Prelude.{ℕ, ◌==◌, Bool, false, ◌||◌, List, [], ◌∷◌, codes, Option, Some, None, Result, Ok, Err, if◌then◌else◌}
 use Rattle.std.specs.Str.{bytes_eq}
 use Rattle.batch_words.specs.Words.{meaning}
 use Rattle.batch_words.specs.declared.order.Order.{Order}
@@ -7,27 +7,18 @@ use Rattle.batch_words.specs.declared.order.Order.TheVariants.{Run, Generate, Ch
 use Rattle.batch_words.specs.declared.word_error.WordError.{WordError}
 use Rattle.batch_words.specs.declared.word_kind.WordKind.TheVariants.{OtherCall}
 use Rattle.batch_main.specs.Refusals.{word_refusal}
-use Rattle.batch_main.specs.declared.refusal.Refusal.{Refusal}
-use Rattle.batch_main.specs.declared.refusal.Refusal.TheVariants.{Usage, JobRefused, SinkFault, InputFault, NotBuilt, NoMemory}
 use Rattle.batch_main.specs.declared.unbuilt.Unbuilt.TheVariants as unbuilt
 use Rattle.batch_main.specs.declared.view.View.{View}
 use Rattle.batch_main.specs.declared.view.View.TheVariants as view
-
--- a refusal that words can have
-abbrev pub IsOfWords : Refusal → Type 0
-IsOfWords (Usage at kind) = ⊤
-IsOfWords (NotBuilt what) = ⊤
-IsOfWords NoMemory = ⊤
-IsOfWords (JobRefused fault) = ⊥
-IsOfWords SinkFault = ⊥
-IsOfWords InputFault = ⊥
+use Rattle.batch_main.specs.declared.word_refusal.WordRefusal.{WordRefusal}
+use Rattle.batch_main.specs.declared.word_refusal.WordRefusal.TheVariants.{Usage, NotBuilt}
 
 -- a command of the other call
-abbrev pub other_call : Refusal
+abbrev pub other_call : WordRefusal
 other_call = Usage 0 OtherCall
 
 -- why an order is no run without workers
-abbrev pub order_refusal : Result Order WordError → Option Refusal
+abbrev pub order_refusal : Result Order WordError → Option WordRefusal
 order_refusal (Ok (Run workers)) = if workers == 0 then None else Some (NotBuilt unbuilt.Workers)
 order_refusal (Ok (Generate n workers)) = Some (NotBuilt unbuilt.Generate)
 order_refusal (Ok Check) = Some other_call
@@ -37,11 +28,11 @@ order_refusal (Ok Events) = Some other_call
 order_refusal (Err e) = Some (word_refusal e)
 
 -- why the words ask for no run without workers
-abbrev pub run_refusal : List (List ℕ) → Option Refusal
+abbrev pub run_refusal : List (List ℕ) → Option WordRefusal
 run_refusal words = order_refusal (meaning words)
 
 -- what an order asks to see, or why it is refused
-abbrev pub order_view : Result Order WordError → Result View Refusal
+abbrev pub order_view : Result Order WordError → Result View WordRefusal
 order_view (Ok (Run workers)) = Err other_call
 order_view (Ok (Generate n workers)) = Err other_call
 order_view (Ok Check) = Ok view.Check
@@ -51,15 +42,12 @@ order_view (Ok Events) = Err (NotBuilt unbuilt.Events)
 order_view (Err e) = Err (word_refusal e)
 
 -- what the words ask to see, or why they are refused
-abbrev pub view_of : List (List ℕ) → Result View Refusal
+abbrev pub view_of : List (List ℕ) → Result View WordRefusal
 view_of words = order_view (meaning words)
-
--- why the words ask for nothing to see
-abbrev pub view_refusal : Result View Refusal → Option Refusal
-view_refusal (Ok asked) = None
-view_refusal (Err refused) = Some refused
 
 -- the first word is a command that only shows something
 abbrev pub is_view : List (List ℕ) → Bool
 is_view [] = false
-is_view (word ∷ words) = bytes_eq word (codes "check") || bytes_eq word (codes "plan") || bytes_eq word (codes "reference") || bytes_eq word (codes "events")
+is_view (word ∷ words) =
+    bytes_eq word (codes "check") || bytes_eq word (codes "plan")
+    || bytes_eq word (codes "reference") || bytes_eq word (codes "events")

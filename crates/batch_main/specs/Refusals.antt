@@ -15,27 +15,38 @@ use Rattle.plan_model.specs.declared.plan_fault.PlanFault.{PlanFault}
 use Rattle.batch_main.specs.declared.answer.Answer.{Answer}
 use Rattle.batch_main.specs.declared.answer.Answer.TheVariants as answer
 use Rattle.batch_main.specs.declared.job_refusal.JobRefusal.{JobRefusal}
+use Rattle.batch_main.specs.declared.not_accepted.NotAccepted.{NotAccepted}
+use Rattle.batch_main.specs.declared.not_accepted.NotAccepted.TheVariants as accept
 use Rattle.batch_main.specs.declared.refusal.Refusal.{Refusal}
-use Rattle.batch_main.specs.declared.refusal.Refusal.TheVariants.{Usage, JobRefused, SinkFault, InputFault, NotBuilt, NoMemory}
+use Rattle.batch_main.specs.declared.refusal.Refusal.TheVariants.{Words, Job, IdTaken, SinkFault, InputFault, NoMemory}
 use Rattle.batch_main.specs.declared.refused_kind.RefusedKind.TheVariants.{Text, Plan}
+use Rattle.batch_main.specs.declared.unbuilt.Unbuilt.TheVariants as unbuilt
+use Rattle.batch_main.specs.declared.word_refusal.WordRefusal.{WordRefusal}
+use Rattle.batch_main.specs.declared.word_refusal.WordRefusal.TheVariants as words
 
-abbrev pub word_refusal : WordError → Refusal
-word_refusal (word.Fault at kind) = Usage at kind
-word_refusal word.NoMemory = NoMemory
+abbrev pub word_refusal : WordError → WordRefusal
+word_refusal (word.Fault at kind) = words.Usage at kind
+word_refusal word.NoMemory = words.NoMemory
 
+-- the fault of a text, as a job's
 abbrev pub text_fault : JobFault → JobRefusal
 text_fault fault = record { kind = Text fault.kind; node = fault.node; name = fault.name }
 
-abbrev pub job_refusal : JobError → Refusal
-job_refusal (text.Fault fault) = JobRefused (text_fault fault)
-job_refusal text.NoMemory = NoMemory
+abbrev pub text_refusal : JobError → NotAccepted
+text_refusal (text.Fault fault) = accept.Refused (text_fault fault)
+text_refusal text.NoMemory = accept.NoMemory
 
+-- the fault of a plan, as a job's
 abbrev pub plan_fault : PlanFault → JobRefusal
 plan_fault fault = record { kind = Plan fault.kind; node = fault.node; name = None }
 
-abbrev pub plan_refusal : PlanError → Refusal
-plan_refusal (plan.Fault fault) = JobRefused (plan_fault fault)
-plan_refusal plan.NoMemory = NoMemory
+abbrev pub plan_refusal : PlanError → NotAccepted
+plan_refusal (plan.Fault fault) = accept.Refused (plan_fault fault)
+plan_refusal plan.NoMemory = accept.NoMemory
+
+abbrev pub job_refusal : NotAccepted → Refusal
+job_refusal (accept.Refused fault) = Job fault
+job_refusal accept.NoMemory = NoMemory
 
 abbrev pub estate_refusal : EstateError → Refusal
 estate_refusal estate.Failed = SinkFault
@@ -45,10 +56,20 @@ abbrev pub input_refusal : InputError → Refusal
 input_refusal input.Failed = InputFault
 input_refusal input.NoMemory = NoMemory
 
+-- the answer to words that are refused
+abbrev pub word_answer : WordRefusal → Answer
+word_answer (words.Usage at kind) = answer.Usage at kind
+word_answer (words.NotBuilt what) = answer.NotBuilt what
+word_answer words.NoMemory = answer.NoMemory
+
+-- the answer to a job that is refused
+abbrev pub job_answer : JobRefusal → Answer
+job_answer fault = answer.JobRefused fault.kind fault.node fault.name
+
 abbrev pub answer_to : Refusal → Answer
-answer_to (Usage at kind) = answer.Usage at kind
-answer_to (JobRefused fault) = answer.JobRefused fault.kind fault.node fault.name
+answer_to (Words refused) = word_answer refused
+answer_to (Job fault) = job_answer fault
+answer_to IdTaken = answer.NotBuilt unbuilt.Commit
 answer_to SinkFault = answer.SinkFault
 answer_to InputFault = answer.InputFault
-answer_to (NotBuilt what) = answer.NotBuilt what
 answer_to NoMemory = answer.NoMemory

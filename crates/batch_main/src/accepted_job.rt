@@ -2,7 +2,7 @@ ghost use Rattle.std.specs.Prelude.{◌≡◌, ◌<◌, ◌^◌, length, IfOk, I
 ghost use Rattle.job_json.specs.Texts.{printed_text};
 ghost use Rattle.batch_main.specs.Jobs.{IsAccepted, IsRefusalOf, job_of};
 
-use crate::refusal::Refusal;
+use crate::not_accepted::NotAccepted;
 use job_json::{print_job, read_job};
 use plan_model::{GoodPlan, Settings, check_plan};
 use row_core::Bytes;
@@ -19,7 +19,7 @@ pub struct AcceptedJob {
 }
 
 /// The job of a text, or the first fault of the text or of its plan.
-pub fn accept(alloc: Global, text: &Bytes) -> Result<AcceptedJob, Refusal>
+pub fn read_accepted_job(alloc: Global, text: &Bytes) -> Result<AcceptedJob, NotAccepted>
     ensures accepted { IfOk result (λ job. IsAccepted text.now (job_of job)) }
     ensures text { IfOk result (λ job. job.text ≡ printed_text (job_of job)) }
     ensures few { IfOk result (λ job. length job.plan < 2 ^ 32) }

@@ -1,4 +1,4 @@
-ghost use Rattle.std.specs.Prelude.{◌≡◌, ◌≤◌};
+ghost use Rattle.std.specs.Prelude.{◌≡◌, ◌⊎◌, ◌≤◌};
 ghost use Rattle.estate.specs.Changes.{Rose};
 ghost use Rattle.batch_main.specs.FolderWorld.{folder_world};
 
@@ -52,6 +52,7 @@ fn failed(faults: &mut u64) -> EstateError
 // Counts a fault, unless the error is want of memory.
 fn estate_error(faults: &mut u64, error: io::Error) -> EstateError
     ensures cause { result ≡ EstateError.Failed → Rose faults.old faults.new }
+    ensures steady { (result ≡ EstateError.Failed) ⊎ (faults.new ≡ faults.old) }
     ensures later { faults.old ≤ faults.new }
 {
     if error.kind() == io::ErrorKind::OutOfMemory {

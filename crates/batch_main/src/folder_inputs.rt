@@ -1,4 +1,4 @@
-ghost use Rattle.std.specs.Prelude.{◌≡◌, ◌≤◌, false, []};
+ghost use Rattle.std.specs.Prelude.{◌≡◌, ◌⊎◌, ◌≤◌, false, []};
 ghost use Rattle.estate.specs.Changes.{Rose};
 
 use estate::{InputError, Inputs, Sizes};
@@ -12,8 +12,8 @@ use std::{fs, io};
 #[derive(Drop)]
 pub struct FolderInputs<'a, R> {
     rt: &'a R,
-    // The table that was listed last, so that its folder is listed once.
-    listing: Option<Listing>,
+    // Each table's folder is listed once: a file that comes later changes no file's number.
+    listings: Vec<Listing>,
     faults: u64,
 }
 
@@ -24,11 +24,11 @@ struct Listing {
     paths: Vec<String>,
 }
 
-impl<'a, R> FolderInputs<'a, R> {
+impl<'a, R: AllocGlobal> FolderInputs<'a, R> {
     pub fn new(rt: &'a R) -> Self {
         FolderInputs {
             rt,
-            listing: None,
+            listings: Vec::new(rt.alloc()),
             faults: 0,
         }
     }
@@ -37,6 +37,7 @@ impl<'a, R> FolderInputs<'a, R> {
 // Counts a fault, unless the error is want of memory.
 fn input_error(faults: &mut u64, error: io::Error) -> InputError
     ensures cause { result ≡ InputError.Failed → Rose faults.old faults.new }
+    ensures steady { (result ≡ InputError.Failed) ⊎ (faults.new ≡ faults.old) }
     ensures later { faults.old ≤ faults.new }
 {
     if error.kind() == io::ErrorKind::OutOfMemory {
@@ -57,58 +58,71 @@ impl<'a, R: Files + AllocGlobal + Clone + Drop> Inputs for FolderInputs<'a, R> {
     }
 
     fn file_sizes(&mut self, table: &Bytes) -> Result<Sizes, InputError> {
-        match list(self.rt, &mut self.listing, table) {
+        match sizes(self.rt, &mut self.listings, table) {
             Ok(sizes) => Ok(Sizes::from_vec(sizes)),
             Err(error) => Err(input_error(&mut self.faults, error)),
         }
     }
 
     fn read_file(&mut self, table: &Bytes, file: u32) -> Result<Bytes, InputError> {
-        match read(self.rt, &mut self.listing, table, file) {
+        match read(self.rt, &mut self.listings, table, file) {
             Ok(bytes) => Ok(Bytes::from_vec(bytes)),
             Err(error) => Err(input_error(&mut self.faults, error)),
         }
     }
 }
 
-// Lists a table's folder, and gives the sizes of its files, in bytes.
-fn list<R: Files + AllocGlobal + Clone + Drop>(
+// The sizes of a table's files, in bytes.
+fn sizes<R: Files + AllocGlobal + Clone + Drop>(
     rt: &R,
-    listing: &mut Option<Listing>,
+    listings: &mut Vec<Listing>,
     table: &Bytes,
 ) -> io::Result<Vec<u64>> {
-    let paths = csv_paths(rt, table)?;
-    let mut sizes = Vec::with_capacity(rt.alloc(), paths.len())?;
-    for path in &paths {
+    list(rt, listings, table)?;
+    let mut sizes = Vec::new(rt.alloc());
+    for path in listed_paths(listings.as_slice(), table).unwrap_or(&[]) {
         sizes.push(fs::metadata(rt, path.as_str())?.len())?;
     }
-    let table = Bytes::from_slice(rt.alloc(), table.as_slice())?;
-    *listing = Some(Listing { table, paths });
     Ok(sizes)
 }
 
-// Reads a file of a table, which is listed first where another one was.
+// Reads a file of a table.
 fn read<R: Files + AllocGlobal + Clone + Drop>(
     rt: &R,
-    listing: &mut Option<Listing>,
+    listings: &mut Vec<Listing>,
     table: &Bytes,
     file: u32,
 ) -> io::Result<Vec<u8>> {
-    if !is_listed(listing, table) {
-        list(rt, listing, table)?;
-    }
-    let paths = listing.as_ref().map(|listing| listing.paths.as_slice());
+    list(rt, listings, table)?;
+    let paths = listed_paths(listings.as_slice(), table);
     match paths.and_then(|paths| paths.get(file as usize)) {
         Some(path) => fs::read(rt, path.as_str()),
         None => Err(io::Error::from(io::ErrorKind::NotFound)),
     }
 }
 
-fn is_listed(listing: &Option<Listing>, table: &Bytes) -> bool {
-    match listing {
-        Some(listing) => listing.table.equals(table),
-        None => false,
+// Lists a table's folder, unless it was listed before.
+fn list<R: Files + AllocGlobal + Clone + Drop>(
+    rt: &R,
+    listings: &mut Vec<Listing>,
+    table: &Bytes,
+) -> io::Result<()> {
+    if listed_paths(listings.as_slice(), table).is_some() {
+        return Ok(());
     }
+    let paths = csv_paths(rt, table)?;
+    let table = Bytes::from_slice(rt.alloc(), table.as_slice())?;
+    Ok(listings.push(Listing { table, paths })?)
+}
+
+// The paths of a table that was listed.
+fn listed_paths<'a>(listings: &'a [Listing], table: &Bytes) -> Option<&'a [String]> {
+    for listing in listings {
+        if listing.table.equals(table) {
+            return Some(listing.paths.as_slice());
+        }
+    }
+    None
 }
 
 // The paths of a table's files, in the byte order of their names. A missing folder is an error.

@@ -11,15 +11,17 @@ mod job_refusal;
 mod lines;
 mod listed_table;
 mod looking;
+mod not_accepted;
 mod orders;
 mod outcome;
+mod printing;
 mod refusal;
 mod refused_kind;
 mod running;
+mod serving;
 mod standard_output;
 mod system_clock;
 mod tables;
-mod telling;
 #[cfg(test)]
 mod tests;
 mod unbuilt;
@@ -27,10 +29,10 @@ mod view;
 mod view_text;
 mod volatile_log;
 mod volatile_shelf;
+mod word_refusal;
 
 use crate::folder_estate::FolderEstate;
 use crate::folder_inputs::FolderInputs;
-use crate::orders::is_view;
 use crate::standard_output::StandardOutput;
 use crate::system_clock::SystemClock;
 pub use answer::Answer;
@@ -39,28 +41,26 @@ pub use looking::look;
 pub use outcome::Outcome;
 pub use refused_kind::RefusedKind;
 pub use running::run;
+pub use serving::serve;
 use std::process::ExitCode;
 use std::{env, io};
 pub use unbuilt::Unbuilt;
 
 fn main(rt: HostRuntime) -> ExitCode {
     let outcome = match arguments(&rt) {
-        Ok(words) => serve(&rt, words.as_slice()),
+        Ok(words) => serve_folder(&rt, words.as_slice()),
         Err(_) => Outcome::new(Answer::NoMemory),
     };
     ExitCode::from(outcome.status)
 }
 
-// Serves the words in the present folder.
-fn serve(rt: &HostRuntime, words: &[String]) -> Outcome {
+// Serves the words over the objects of the present folder.
+fn serve_folder(rt: &HostRuntime, words: &[String]) -> Outcome {
     let mut estate = FolderEstate::new(rt);
     let mut inputs = FolderInputs::new(rt);
     let mut printer = StandardOutput::new(rt);
-    if is_view(words) {
-        return look(rt.alloc(), words, &mut estate, &mut inputs, &mut printer);
-    }
     let mut clock = SystemClock::new(rt);
-    run(
+    serve(
         rt.alloc(),
         words,
         &mut estate,

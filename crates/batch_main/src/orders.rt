@@ -1,18 +1,17 @@
-ghost use Rattle.std.specs.Prelude.{◌≡◌, map, string_bytes, Some, None, IfErr, MatchResult};
+ghost use Rattle.std.specs.Prelude.{◌≡◌, map, string_bytes, Some, None, MatchResult};
 ghost use Rattle.batch_words.specs.declared.word_kind.WordKind.TheVariants.{OtherCall};
-ghost use Rattle.batch_main.specs.Orders.{IsOfWords, is_view, run_refusal, view_of};
+ghost use Rattle.batch_main.specs.Orders.{is_view, run_refusal, view_of};
 
 use crate::Unbuilt;
-use crate::refusal::Refusal;
 use crate::view::View;
+use crate::word_refusal::WordRefusal;
 use batch_words::{Order, WordKind, read_words};
 
 /// Whether the words ask for a run without workers, or why they are refused.
-pub fn check_run(words: &[String]) -> Result<(), Refusal>
-    ensures told { MatchResult result
+pub fn check_run(words: &[String]) -> Result<(), WordRefusal>
+    ensures { MatchResult result
         (λ _. run_refusal (map string_bytes words.now) ≡ None)
         (λ refusal. run_refusal (map string_bytes words.now) ≡ Some refusal) }
-    ensures kind { IfErr result IsOfWords }
 {
     match read_words(words)? {
         Order::Run { workers: 0 } => Ok(()),
@@ -23,9 +22,8 @@ pub fn check_run(words: &[String]) -> Result<(), Refusal>
 }
 
 /// What the words ask to see, or why they are refused.
-pub fn read_view(words: &[String]) -> Result<View, Refusal>
-    ensures asked { result ≡ view_of (map string_bytes words.now) }
-    ensures kind { IfErr result IsOfWords }
+pub fn read_view(words: &[String]) -> Result<View, WordRefusal>
+    ensures { result ≡ view_of (map string_bytes words.now) }
 {
     match read_words(words)? {
         Order::Check => Ok(View::Check),
@@ -47,17 +45,17 @@ pub fn is_view(words: &[String]) -> bool
     word == "check" || word == "plan" || word == "reference" || word == "events"
 }
 
-fn not_built(what: Unbuilt) -> Refusal
-    ensures { result ≡ Refusal.NotBuilt what }
+fn not_built(what: Unbuilt) -> WordRefusal
+    ensures { result ≡ WordRefusal.NotBuilt what }
 {
-    Refusal::NotBuilt { what }
+    WordRefusal::NotBuilt { what }
 }
 
 // A command of the other call is the fault of the first word.
-fn other_call() -> Refusal
-    ensures { result ≡ Refusal.Usage 0 OtherCall }
+fn other_call() -> WordRefusal
+    ensures { result ≡ WordRefusal.Usage 0 OtherCall }
 {
-    Refusal::Usage {
+    WordRefusal::Usage {
         at: 0,
         kind: WordKind::OtherCall,
     }

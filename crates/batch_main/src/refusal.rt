@@ -1,23 +1,23 @@
 ghost use Rattle.std.specs.Prelude.{◌≡◌};
-ghost use Rattle.batch_main.specs.Refusals.{answer_to, estate_refusal, input_refusal, job_refusal, plan_refusal, word_refusal};
-ghost use Rattle.batch_main.specs.declared.refusal.Refusal.TheVariants.{NoMemory};
+ghost use Rattle.batch_main.specs.Refusals.{answer_to, estate_refusal, input_refusal, job_refusal};
+ghost use Rattle.batch_main.specs.declared.refusal.Refusal.TheVariants.{NoMemory, Words};
 
 use crate::job_refusal::JobRefusal;
-use crate::{Answer, RefusedKind, Unbuilt};
-use batch_words::{WordError, WordKind};
+use crate::not_accepted::NotAccepted;
+use crate::word_refusal::WordRefusal;
+use crate::{Answer, Unbuilt};
 use estate::{EstateError, InputError};
-use job_json::JobError;
-use plan_model::PlanError;
-use std::alloc::{AllocError, AllocFailed};
+use std::alloc::AllocError;
 
 /// Why a command was not served.
 #[derive(Debug, Drop)]
 pub enum Refusal {
-    Usage { at: u64, kind: WordKind },
-    JobRefused(JobRefusal),
+    Words(WordRefusal),
+    Job(JobRefusal),
+    /// The job's name has a commit.
+    IdTaken,
     SinkFault,
     InputFault,
-    NotBuilt { what: Unbuilt },
     NoMemory,
 }
 
@@ -26,55 +26,36 @@ impl From<Refusal> for Answer {
 
     fn from(refusal: Refusal) -> Self {
         match refusal {
-            Refusal::Usage { at, kind } => Answer::Usage { at, kind },
-            Refusal::JobRefused(JobRefusal { kind, node, name }) => {
+            Refusal::Words(WordRefusal::Usage { at, kind }) => Answer::Usage { at, kind },
+            Refusal::Words(WordRefusal::NotBuilt { what }) => Answer::NotBuilt { what },
+            Refusal::Words(WordRefusal::NoMemory) | Refusal::NoMemory => Answer::NoMemory,
+            Refusal::Job(JobRefusal { kind, node, name }) => {
                 Answer::JobRefused { kind, node, name }
             }
+            Refusal::IdTaken => Answer::NotBuilt {
+                what: Unbuilt::Commit,
+            },
             Refusal::SinkFault => Answer::SinkFault,
             Refusal::InputFault => Answer::InputFault,
-            Refusal::NotBuilt { what } => Answer::NotBuilt { what },
-            Refusal::NoMemory => Answer::NoMemory,
         }
     }
 }
 
-impl From<WordError> for Refusal {
-    ghost from_gives = { λ error refusal. refusal ≡ word_refusal error };
+impl From<WordRefusal> for Refusal {
+    ghost from_gives = { λ words refusal. refusal ≡ Words words };
 
-    fn from(error: WordError) -> Self {
-        match error {
-            WordError::Fault { at, kind } => Refusal::Usage { at, kind },
-            WordError::NoMemory => Refusal::NoMemory,
-        }
+    fn from(words: WordRefusal) -> Self {
+        Refusal::Words(words)
     }
 }
 
-impl From<JobError> for Refusal {
+impl From<NotAccepted> for Refusal {
     ghost from_gives = { λ error refusal. refusal ≡ job_refusal error };
 
-    fn from(error: JobError) -> Self {
+    fn from(error: NotAccepted) -> Self {
         match error {
-            JobError::Fault(fault) => Refusal::JobRefused(JobRefusal {
-                kind: RefusedKind::Text(fault.kind),
-                node: fault.node,
-                name: fault.name,
-            }),
-            JobError::NoMemory => Refusal::NoMemory,
-        }
-    }
-}
-
-impl From<PlanError> for Refusal {
-    ghost from_gives = { λ error refusal. refusal ≡ plan_refusal error };
-
-    fn from(error: PlanError) -> Self {
-        match error {
-            PlanError::Fault(fault) => Refusal::JobRefused(JobRefusal {
-                kind: RefusedKind::Plan(fault.kind),
-                node: fault.node,
-                name: None,
-            }),
-            PlanError::NoMemory => Refusal::NoMemory,
+            NotAccepted::Refused(fault) => Refusal::Job(fault),
+            NotAccepted::NoMemory => Refusal::NoMemory,
         }
     }
 }
@@ -105,14 +86,6 @@ impl From<AllocError> for Refusal {
     ghost from_gives = { λ _ refusal. refusal ≡ NoMemory };
 
     fn from(_: AllocError) -> Self {
-        Refusal::NoMemory
-    }
-}
-
-impl<T: Drop> From<AllocFailed<T>> for Refusal {
-    ghost from_gives = { λ _ refusal. refusal ≡ NoMemory };
-
-    fn from(_: AllocFailed<T>) -> Self {
         Refusal::NoMemory
     }
 }

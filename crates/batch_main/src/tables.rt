@@ -1,13 +1,10 @@
-ghost use Rattle.std.specs.Prelude.{◌≡◌, length, map, All, IsTrue, IfOk, IfErr};
-ghost use Rattle.estate.specs.Contents.{KeepsContents};
+ghost use Rattle.std.specs.Prelude.{◌≡◌, length, map, IsTrue, IfOk};
 ghost use Rattle.plan_model.specs.Plans.{committed_text};
 ghost use Rattle.plan_model.specs.TableNames.{tables_of};
-ghost use Rattle.batch_main.specs.Causes.{WhyUnread};
-ghost use Rattle.batch_main.specs.Tables.{listed, with_files};
+ghost use Rattle.batch_main.specs.Tables.{AreListed, Reads, listed, with_files};
 
 use crate::listed_table::ListedTable;
-use crate::refusal::Refusal;
-use estate::Inputs;
+use estate::{InputError, Inputs};
 use plan_eval::{Files, TableFiles, TableRows, answer};
 use plan_model::{GoodPlan, tables_of};
 use row_core::Bytes;
@@ -18,10 +15,10 @@ pub fn list_tables<I: Inputs>(
     alloc: Global,
     inputs: &mut I,
     plan: &GoodPlan,
-) -> Result<Vec<ListedTable>, Refusal>
-    ensures keeps { KeepsContents (I.contents inputs.old) (I.contents inputs.new) }
-    ensures tables { IfOk result (λ tables. IsTrue (I.contents inputs.old).told → tables.items ≡ listed (I.contents inputs.old).files (tables_of plan.now)) }
-    ensures why { IfErr result (WhyUnread (I.contents inputs.old).faults (I.contents inputs.new).faults) }
+) -> Result<Vec<ListedTable>, InputError>
+    ensures reads { Reads (I.contents inputs.old) (I.contents inputs.new) result }
+    ensures tables { IfOk result (λ tables. IsTrue (I.contents inputs.old).told →
+        tables.items ≡ listed (I.contents inputs.old).files (tables_of plan.now)) }
 {
     let names = tables_of(alloc, plan.plan())?;
     list_each(alloc, inputs, names.into_vec())
@@ -33,11 +30,12 @@ pub fn text_over<I: Inputs>(
     inputs: &mut I,
     plan: &GoodPlan,
     tables: Vec<ListedTable>,
-) -> Result<Bytes, Refusal>
-    requires { IsTrue (I.contents inputs.old).told → tables.items ≡ listed (I.contents inputs.old).files (tables_of plan.now) }
-    ensures keeps { KeepsContents (I.contents inputs.old) (I.contents inputs.new) }
-    ensures text { IfOk result (λ text. IsTrue (I.contents inputs.old).told → text ≡ committed_text (I.contents inputs.old).files plan.now) }
-    ensures why { IfErr result (WhyUnread (I.contents inputs.old).faults (I.contents inputs.new).faults) }
+) -> Result<Bytes, InputError>
+    requires { IsTrue (I.contents inputs.old).told →
+        tables.items ≡ listed (I.contents inputs.old).files (tables_of plan.now) }
+    ensures reads { Reads (I.contents inputs.old) (I.contents inputs.new) result }
+    ensures text { IfOk result (λ text. IsTrue (I.contents inputs.old).told →
+        text ≡ committed_text (I.contents inputs.old).files plan.now) }
 {
     let tables = read_tables(alloc, inputs, tables)?;
     Ok(answer(alloc, plan, &tables)?)
@@ -47,10 +45,10 @@ fn list_each<I: Inputs>(
     alloc: Global,
     inputs: &mut I,
     names: Vec<Bytes>,
-) -> Result<Vec<ListedTable>, Refusal>
-    ensures keeps { KeepsContents (I.contents inputs.old) (I.contents inputs.new) }
-    ensures tables { IfOk result (λ tables. IsTrue (I.contents inputs.old).told → tables.items ≡ listed (I.contents inputs.old).files names.items) }
-    ensures why { IfErr result (WhyUnread (I.contents inputs.old).faults (I.contents inputs.new).faults) }
+) -> Result<Vec<ListedTable>, InputError>
+    ensures reads { Reads (I.contents inputs.old) (I.contents inputs.new) result }
+    ensures tables { IfOk result (λ tables. IsTrue (I.contents inputs.old).told →
+        tables.items ≡ listed (I.contents inputs.old).files names.items) }
 {
     let mut tables = Vec::with_capacity(alloc, names.len())?;
     for table in names {
@@ -61,15 +59,15 @@ fn list_each<I: Inputs>(
 }
 
 // How many files a table has. More than 2^32 - 1 are not numbered, which is want of memory.
-fn file_count<I: Inputs>(inputs: &mut I, table: &Bytes) -> Result<u32, Refusal>
-    ensures keeps { KeepsContents (I.contents inputs.old) (I.contents inputs.new) }
-    ensures count { IfOk result (λ files. IsTrue (I.contents inputs.old).told → length ((I.contents inputs.old).files table.now) ≡ files) }
-    ensures why { IfErr result (WhyUnread (I.contents inputs.old).faults (I.contents inputs.new).faults) }
+fn file_count<I: Inputs>(inputs: &mut I, table: &Bytes) -> Result<u32, InputError>
+    ensures reads { Reads (I.contents inputs.old) (I.contents inputs.new) result }
+    ensures count { IfOk result (λ files. IsTrue (I.contents inputs.old).told →
+        length ((I.contents inputs.old).files table.now) ≡ files) }
 {
     let sizes = inputs.file_sizes(table)?;
     match u32::try_from(sizes.as_slice().len()) {
         Ok(files) => Ok(files),
-        Err(_) => Err(Refusal::NoMemory),
+        Err(_) => Err(InputError::NoMemory),
     }
 }
 
@@ -77,11 +75,12 @@ fn read_tables<I: Inputs>(
     alloc: Global,
     inputs: &mut I,
     tables: Vec<ListedTable>,
-) -> Result<TableRows, Refusal>
-    requires { IsTrue (I.contents inputs.old).told → All (λ table. table.files ≡ length ((I.contents inputs.old).files table.table)) tables.items }
-    ensures keeps { KeepsContents (I.contents inputs.old) (I.contents inputs.new) }
-    ensures tables { IfOk result (λ rows. IsTrue (I.contents inputs.old).told → rows ≡ with_files (I.contents inputs.old).files (map (λ table. table.table) tables.items)) }
-    ensures why { IfErr result (WhyUnread (I.contents inputs.old).faults (I.contents inputs.new).faults) }
+) -> Result<TableRows, InputError>
+    requires { IsTrue (I.contents inputs.old).told →
+        AreListed (I.contents inputs.old).files tables.items }
+    ensures reads { Reads (I.contents inputs.old) (I.contents inputs.new) result }
+    ensures tables { IfOk result (λ rows. IsTrue (I.contents inputs.old).told →
+        rows ≡ with_files (I.contents inputs.old).files (map (λ table. table.table) tables.items)) }
 {
     let mut made = Vec::with_capacity(alloc, tables.len())?;
     for table in tables {
@@ -94,11 +93,12 @@ fn read_table<I: Inputs>(
     alloc: Global,
     inputs: &mut I,
     table: ListedTable,
-) -> Result<TableFiles, Refusal>
-    requires { IsTrue (I.contents inputs.old).told → table.files ≡ length ((I.contents inputs.old).files table.table) }
-    ensures keeps { KeepsContents (I.contents inputs.old) (I.contents inputs.new) }
-    ensures files { IfOk result (λ made. IsTrue (I.contents inputs.old).told → made ≡ record { table = table.table; rows = (I.contents inputs.old).files table.table }) }
-    ensures why { IfErr result (WhyUnread (I.contents inputs.old).faults (I.contents inputs.new).faults) }
+) -> Result<TableFiles, InputError>
+    requires { IsTrue (I.contents inputs.old).told →
+        table.files ≡ length ((I.contents inputs.old).files table.table) }
+    ensures reads { Reads (I.contents inputs.old) (I.contents inputs.new) result }
+    ensures files { IfOk result (λ made. IsTrue (I.contents inputs.old).told →
+        made ≡ record { table = table.table; rows = (I.contents inputs.old).files table.table }) }
 {
     let rows = read_files(alloc, inputs, &table.table, table.files)?;
     Ok(TableFiles {
@@ -112,11 +112,12 @@ fn read_files<I: Inputs>(
     inputs: &mut I,
     table: &Bytes,
     files: u32,
-) -> Result<Files, Refusal>
-    requires { IsTrue (I.contents inputs.old).told → files ≡ length ((I.contents inputs.old).files table.now) }
-    ensures keeps { KeepsContents (I.contents inputs.old) (I.contents inputs.new) }
-    ensures files { IfOk result (λ made. IsTrue (I.contents inputs.old).told → made ≡ (I.contents inputs.old).files table.now) }
-    ensures why { IfErr result (WhyUnread (I.contents inputs.old).faults (I.contents inputs.new).faults) }
+) -> Result<Files, InputError>
+    requires { IsTrue (I.contents inputs.old).told →
+        files ≡ length ((I.contents inputs.old).files table.now) }
+    ensures reads { Reads (I.contents inputs.old) (I.contents inputs.new) result }
+    ensures files { IfOk result (λ made. IsTrue (I.contents inputs.old).told →
+        made ≡ (I.contents inputs.old).files table.now) }
 {
     let mut made = Vec::new(alloc);
     for file in 0..files {

@@ -1,5 +1,4 @@
-use crate::orders::is_view;
-use crate::{look, run};
+use crate::{look, run, serve};
 use estate::{
     Files, FixedClock, Losses, MemEstate, MemInputs, MemPrinter, NoGate, Numbers, Table, Tables,
 };
@@ -122,7 +121,7 @@ fn words_of(alloc: Global, line: &str) -> Result<Vec<String>, NoMemory> {
 }
 
 // Serves the words as the program does, and gives the status and what was printed.
-fn serve(
+fn serve_words(
     alloc: Global,
     words: &[String],
     estate: &mut MemEstate,
@@ -132,140 +131,202 @@ fn serve(
     let tables = tables_of(alloc, given.tables)?;
     let mut inputs = MemInputs::new(alloc, &job, &tables, &numbers(alloc, given.inputs)?)?;
     let mut printer = MemPrinter::new(alloc, &numbers(alloc, given.printer)?)?;
-    let outcome = if is_view(words) {
-        look(alloc, words, estate, &mut inputs, &mut printer)
-    } else {
-        let mut clock = FixedClock::new(alloc, &numbers(alloc, &[])?)?;
-        run(
-            alloc,
-            words,
-            estate,
-            &mut inputs,
-            &mut printer,
-            &mut clock,
-            &NoGate,
-        )
-    };
+    let mut clock = FixedClock::new(alloc, &numbers(alloc, &[])?)?;
+    let outcome = serve(
+        alloc,
+        words,
+        estate,
+        &mut inputs,
+        &mut printer,
+        &mut clock,
+        &NoGate,
+    );
     Ok((outcome.status, printer.printed()?))
 }
 
-// Serves a line of words over a fresh estate, and gives the status, what was printed, and how many commits there are.
-fn serve_line(alloc: Global, line: &str, given: Given<'_>) -> Result<(u8, Bytes, usize), NoMemory> {
-    let mut estate = new_estate(alloc, given.estate)?;
-    let words = words_of(alloc, line)?;
-    let (status, printed) = serve(alloc, words.as_slice(), &mut estate, given)?;
-    Ok((status, printed, estate.commits()?.as_slice().len()))
-}
-
-// The texts of the first commit: the job's and its rows'.
-fn first_commit(alloc: Global, estate: &MemEstate) -> Result<(Bytes, Bytes), NoMemory> {
-    let commits = estate.commits()?;
-    match commits.as_slice().first() {
-        Some(commit) => Ok((
-            Bytes::from_slice(alloc, commit.job.as_slice())?,
-            Bytes::from_slice(alloc, commit.text.as_slice())?,
-        )),
-        None => Ok((Bytes::new(alloc), Bytes::new(alloc))),
+// The rows' text of the first commit, or nothing.
+fn first_text(alloc: Global, estate: &MemEstate) -> Result<Bytes, NoMemory> {
+    match estate.commits()?.as_slice().first() {
+        Some(commit) => Bytes::from_slice(alloc, commit.text.as_slice()),
+        None => Ok(Bytes::new(alloc)),
     }
 }
 
-#[test]
-fn commits_the_rows_that_pass(rt: HostRuntime) -> Result<(), Fail> {
-    let alloc = rt.alloc();
-    let cases: [(&[&str], &str); 5] = [
-        (&[ROWS], COMMITTED),
-        (&[], "sink out\n"),
-        (&[""], "sink out\n"),
-        (&["3,Bonn,10\n", "2,Kiel,5\n1,Bonn,20"], COMMITTED),
-        (
-            &["1,Bonn,\n2,Kiel,x\n3,,10\n,\"a,b\",11\n"],
-            "sink out\n,\"a,b\",11\n3,,10\n",
-        ),
-    ];
-    let words = words_of(alloc, "run")?;
-    for (files, committed) in cases {
-        let mut estate = new_estate(alloc, &[])?;
-        let tables = [("orders", files)];
-        let given = over(JOB.as_bytes(), &tables);
-        let (status, printed) = serve(alloc, words.as_slice(), &mut estate, given)?;
-        let (job, text) = first_commit(alloc, &estate)?;
-        assert_eq!(rt; status, 0);
-        assert_eq!(rt; printed.as_slice(), b"finished job=orders\n".as_slice());
-        assert_eq!(rt; estate.commits()?.as_slice().len(), 1);
-        assert_eq!(rt; job.as_slice(), PRINTED.as_bytes());
-        assert_eq!(rt; text.as_slice(), committed.as_bytes());
-    }
-    Ok(())
-}
+// The commands over their job, with what they print and the text that they commit.
+const SERVED: &[(&str, &str, &[(&str, &[&str])], &str, &str)] = &[
+    ("run", JOB, ORDERS, "finished job=orders\n", COMMITTED),
+    (
+        "run --workers 0",
+        TOTALS,
+        TOTALS_TABLES,
+        "finished job=totals\n",
+        TOTALS_TEXT,
+    ),
+    ("check", TOTALS, &[], "ok nodes=6 sinks=1\n", ""),
+    ("plan", TOTALS, &[], TOTALS_PLAN, ""),
+    ("reference", TOTALS, TOTALS_TABLES, TOTALS_TEXT, ""),
+];
 
 #[test]
-fn commits_a_join_and_an_aggregate(rt: HostRuntime) -> Result<(), Fail> {
+fn serves_its_commands(rt: HostRuntime) -> Result<(), Fail> {
     let alloc = rt.alloc();
-    let mut estate = new_estate(alloc, &[])?;
-    let words = words_of(alloc, "run --workers 0")?;
-    let given = over(TOTALS.as_bytes(), TOTALS_TABLES);
-    let (status, printed) = serve(alloc, words.as_slice(), &mut estate, given)?;
-    let (_, text) = first_commit(alloc, &estate)?;
-    assert_eq!(rt; status, 0);
-    assert_eq!(rt; printed.as_slice(), b"finished job=totals\n".as_slice());
-    assert_eq!(rt; text.as_slice(), TOTALS_TEXT.as_bytes());
-    Ok(())
-}
-
-#[test]
-fn shows_and_writes_nothing(rt: HostRuntime) -> Result<(), Fail> {
-    let alloc = rt.alloc();
-    let cases: [(&str, &str, &[(&str, &[&str])], &str); 6] = [
-        ("check", JOB, &[], "ok nodes=3 sinks=1\n"),
-        ("check", TOTALS, &[], "ok nodes=6 sinks=1\n"),
-        ("plan", JOB, &[], "vertex 0 nodes=0,1,2 in=files out=sink\n"),
-        ("plan", TOTALS, &[], TOTALS_PLAN),
-        ("reference", JOB, ORDERS, COMMITTED),
-        ("reference", TOTALS, TOTALS_TABLES, TOTALS_TEXT),
-    ];
-    for (line, job, tables, shown) in cases {
+    for (line, job, tables, shown, committed) in SERVED {
         let mut estate = new_estate(alloc, &[])?;
         let words = words_of(alloc, line)?;
         let given = over(job.as_bytes(), tables);
-        let (status, printed) = serve(alloc, words.as_slice(), &mut estate, given)?;
-        assert_eq!(rt; status, 0);
-        assert_eq!(rt; printed.as_slice(), shown.as_bytes());
-        assert_eq!(rt; estate.moments(), 1);
+        let (status, printed) = serve_words(alloc, words.as_slice(), &mut estate, given)?;
+        assert_eq!(rt; status, 0, "{line}");
+        assert_eq!(rt; printed.as_slice(), shown.as_bytes(), "{line}");
+        assert_eq!(rt;
+            first_text(alloc, &estate)?.as_slice(),
+            committed.as_bytes()
+        );
     }
     Ok(())
 }
 
 #[test]
-fn refuses_words(rt: HostRuntime) -> Result<(), Fail> {
+fn commits_the_job_as_it_is_printed(rt: HostRuntime) -> Result<(), Fail> {
     let alloc = rt.alloc();
-    let cases: [(&str, u8, &str); 15] = [
-        ("", 1, "usage at=0 unknown-command\n"),
-        ("Run", 1, "usage at=0 unknown-command\n"),
-        ("run ", 1, "usage at=1 unknown-word\n"),
-        ("run run run", 1, "usage at=1 unknown-word\n"),
-        ("run --workers 65", 1, "usage at=2 bad-number\n"),
-        ("run --workers", 1, "usage at=1 missing-number\n"),
-        ("run --workers 1 --workers=2", 1, "usage at=3 repeated\n"),
-        ("generate", 1, "usage at=0 missing-number\n"),
-        ("check job", 1, "usage at=1 unknown-word\n"),
-        ("plan --workers 1", 1, "usage at=1 unknown-word\n"),
-        ("run --workers 1", 18, "not-built workers\n"),
-        ("run --workers=64", 18, "not-built workers\n"),
-        ("generate 10", 18, "not-built generate\n"),
-        ("generate 10 --workers 1", 18, "not-built generate\n"),
-        ("events", 18, "not-built events\n"),
-    ];
-    for (line, wanted, told) in cases {
-        // The text of the job is no JSON: the words come first.
-        let (status, printed, commits) = serve_line(alloc, line, over(b"[", &[]))?;
-        assert_eq!(rt; status, wanted);
-        assert_eq!(rt; printed.as_slice(), told.as_bytes());
-        assert_eq!(rt; commits, 0);
-    }
     let mut estate = new_estate(alloc, &[])?;
-    let (status, printed) = serve(alloc, &[], &mut estate, over(b"[", &[]))?;
-    assert_eq!(rt; status, 1);
-    assert_eq!(rt; printed.as_slice(), b"usage at=0 no-command\n".as_slice());
+    let words = words_of(alloc, "run")?;
+    let given = over(JOB.as_bytes(), ORDERS);
+    let (status, _) = serve_words(alloc, words.as_slice(), &mut estate, given)?;
+    assert_eq!(rt; status, 0);
+    for commit in estate.commits()?.as_slice() {
+        assert_eq!(rt; commit.job.as_slice(), PRINTED.as_bytes());
+    }
+    Ok(())
+}
+
+// Each refusal's line, as it is printed.
+#[test]
+fn refuses_with_a_line(rt: HostRuntime) -> Result<(), Fail> {
+    let alloc = rt.alloc();
+    let none = over(JOB.as_bytes(), ORDERS);
+    let cases: [(&str, Given<'_>, u8, &str, usize); 12] = [
+        ("", none, 1, "usage at=0 unknown-command\n", 0),
+        ("run run run", none, 1, "usage at=1 unknown-word\n", 0),
+        ("run --workers 65", none, 1, "usage at=2 bad-number\n", 0),
+        ("run --workers", none, 1, "usage at=1 missing-number\n", 0),
+        (
+            "run --workers 1 --workers=2",
+            none,
+            1,
+            "usage at=3 repeated\n",
+            0,
+        ),
+        ("run --workers 1", none, 18, "not-built workers\n", 0),
+        ("generate 10", none, 18, "not-built generate\n", 0),
+        ("events", none, 18, "not-built events\n", 0),
+        (
+            "run",
+            Given {
+                inputs: &[2],
+                ..none
+            },
+            7,
+            "input-fault\n",
+            0,
+        ),
+        (
+            "run",
+            Given {
+                estate: &[1],
+                ..none
+            },
+            6,
+            "sink-fault\n",
+            0,
+        ),
+        (
+            "run",
+            Given {
+                printer: &[0],
+                ..none
+            },
+            8,
+            "",
+            1,
+        ),
+        (
+            "runs",
+            Given {
+                printer: &[0],
+                ..none
+            },
+            1,
+            "",
+            0,
+        ),
+    ];
+    for (line, given, wanted, told, wanted_commits) in cases {
+        let mut estate = new_estate(alloc, given.estate)?;
+        let words = words_of(alloc, line)?;
+        let (status, printed) = serve_words(alloc, words.as_slice(), &mut estate, given)?;
+        assert_eq!(rt; status, wanted, "{line}");
+        assert_eq!(rt; printed.as_slice(), told.as_bytes(), "{line}");
+        assert_eq!(rt; estate.commits()?.as_slice().len(), wanted_commits);
+    }
+    Ok(())
+}
+
+#[test]
+fn refuses_jobs(rt: HostRuntime) -> Result<(), Fail> {
+    let alloc = rt.alloc();
+    let cases: [(&str, &str, &str); 3] = [
+        ("run", "[", "job-refused not-json node=- name=-\n"),
+        (
+            "check",
+            "{\"job\":\"a\",\"nodes\":[{\"op\":\"sort\"}]}",
+            "job-refused unknown-op node=0 name=op\n",
+        ),
+        (
+            "plan",
+            "{\"job\":\"a\",\"nodes\":[]}",
+            "job-refused no-sink node=- name=-\n",
+        ),
+    ];
+    for (line, job, told) in cases {
+        let mut estate = new_estate(alloc, &[])?;
+        let words = words_of(alloc, line)?;
+        let given = over(job.as_bytes(), &[]);
+        let (status, printed) = serve_words(alloc, words.as_slice(), &mut estate, given)?;
+        assert_eq!(rt; status, 2, "{line}");
+        assert_eq!(rt; printed.as_slice(), told.as_bytes(), "{line}");
+    }
+    Ok(())
+}
+
+// What is read when: the sink is asked before the files of a table are read, and a command that shows no rows reads the
+// job's text alone.
+#[test]
+fn reads_no_more_than_it_needs(rt: HostRuntime) -> Result<(), Fail> {
+    let alloc = rt.alloc();
+    let mut estate = new_estate(alloc, &[])?;
+    // The first run's calls of the inputs are the job's text, the sizes and the file: later the file fails, then the sizes.
+    let all = over(JOB.as_bytes(), ORDERS);
+    let no_file = Given {
+        inputs: &[2],
+        ..all
+    };
+    let no_sizes = Given {
+        inputs: &[1],
+        ..all
+    };
+    let cases: [(&str, Given<'_>, &str); 5] = [
+        ("run", all, "finished job=orders\n"),
+        ("run", no_file, "not-built commit\n"),
+        ("check", no_sizes, "ok nodes=3 sinks=1\n"),
+        ("plan", no_sizes, "vertex 0 nodes=0,1,2 in=files out=sink\n"),
+        ("reference", no_sizes, "input-fault\n"),
+    ];
+    for (line, given, told) in cases {
+        let words = words_of(alloc, line)?;
+        let (_, printed) = serve_words(alloc, words.as_slice(), &mut estate, given)?;
+        assert_eq!(rt; printed.as_slice(), told.as_bytes(), "{line}");
+    }
+    assert_eq!(rt; estate.commits()?.as_slice().len(), 1);
     Ok(())
 }
 
@@ -302,348 +363,5 @@ fn each_call_has_its_own_commands(rt: HostRuntime) -> Result<(), Fail> {
         printer.printed()?.as_slice(),
         b"usage at=0 other-call\nusage at=0 other-call\n".as_slice()
     );
-    assert_eq!(rt; estate.moments(), 1);
-    Ok(())
-}
-
-// Job texts with what is told of them.
-const REFUSED: &[(&[u8], &str)] = &[
-    (b"", "job-refused not-json node=- name=-\n"),
-    (b"[", "job-refused not-json node=- name=-\n"),
-    (b"[]", "job-refused not-json node=- name=-\n"),
-    (b"\xef\xbb\xbf{}", "job-refused not-json node=- name=-\n"),
-    (
-        b"{\"job\":\"\xff\"}",
-        "job-refused not-json node=- name=-\n",
-    ),
-    (b"{\"job\":\"a\"}\0", "job-refused not-json node=- name=-\n"),
-    (b"{}", "job-refused missing-member node=- name=job\n"),
-    (
-        b"{\"job\":\"a\"}",
-        "job-refused missing-member node=- name=nodes\n",
-    ),
-    (
-        b"{\"job\":\"../a\",\"nodes\":[]}",
-        "job-refused bad-member node=- name=job\n",
-    ),
-    (
-        b"{\"job\":\"a\",\"nodes\":[],\"settings\":{\"attempts\":5}}",
-        "job-refused bad-number node=- name=attempts\n",
-    ),
-    (
-        b"{\"job\":\"a\",\"nodes\":[],\"zz\":0}",
-        "job-refused unknown-member node=- name=zz\n",
-    ),
-    (
-        b"{\"job\":\"a\",\"nodes\":[{\"op\":\"sort\"}]}",
-        "job-refused unknown-op node=0 name=op\n",
-    ),
-    (
-        b"{\"job\":\"a\",\"nodes\":[]}",
-        "job-refused no-sink node=- name=-\n",
-    ),
-    (
-        b"{\"job\":\"a\",\"nodes\":[{\"op\":\"sink\",\"input\":0,\"name\":\"s\"}]}",
-        "job-refused bad-input node=0 name=-\n",
-    ),
-    (
-        b"{\"job\":\"a\",\"nodes\":[{\"op\":\"source\",\"table\":\"t\",\"columns\":[[\"k\",\"int\"]]},{\"op\":\"aggregate\",\"input\":0,\"keys\":[],\"aggs\":[[\"count\"]]},{\"op\":\"sink\",\"input\":1,\"name\":\"s\"}]}",
-        "job-refused no-keys node=1 name=-\n",
-    ),
-    (
-        b"{\"job\":\"a\",\"nodes\":[{\"op\":\"source\",\"table\":\"t\",\"columns\":[[\"k\",\"int\"]]},{\"op\":\"filter\",\"input\":0,\"where\":[\"eq\",[\"col\",1],[\"int\",0]]},{\"op\":\"sink\",\"input\":1,\"name\":\"s\"}]}",
-        "job-refused bad-column node=1 name=-\n",
-    ),
-];
-
-#[test]
-fn refuses_jobs(rt: HostRuntime) -> Result<(), Fail> {
-    let alloc = rt.alloc();
-    for (job, told) in REFUSED {
-        for line in ["run", "check", "plan", "reference"] {
-            let (status, printed, commits) = serve_line(alloc, line, over(job, &[]))?;
-            assert_eq!(rt; status, 2);
-            assert_eq!(rt; printed.as_slice(), told.as_bytes());
-            assert_eq!(rt; commits, 0);
-        }
-    }
-    Ok(())
-}
-
-// A job whose filter, node 1, tests an expression whose lists stand so deep one within another.
-fn deep_job(alloc: Global, depth: usize) -> Result<Vec<u8>, NoMemory> {
-    let mut text =
-        b"{\"job\":\"a\",\"nodes\":[{\"op\":\"source\",\"table\":\"t\",\"columns\":[[\"k\",\"int\"]]},{\"op\":\"filter\",\"input\":0,\"where\":[\"isnull\",".to_vec(
-            alloc,
-        )?;
-    for _ in 1..depth {
-        text.extend_from_slice(b"[\"add\",[\"null\"],")?;
-    }
-    text.extend_from_slice(b"[\"col\",0]")?;
-    for _ in 1..depth {
-        text.push(b']')?;
-    }
-    text.extend_from_slice(b"]},{\"op\":\"sink\",\"input\":1,\"name\":\"s\"}]}")?;
-    Ok(text)
-}
-
-#[test]
-fn refuses_texts_that_are_too_large_or_too_deep(rt: HostRuntime) -> Result<(), Fail> {
-    let alloc = rt.alloc();
-    let cases: [(Vec<u8>, u8, &str); 6] = [
-        (
-            vec![in alloc; b' '; 1_048_577]?,
-            2,
-            "job-refused too-many node=- name=bytes\n",
-        ),
-        (
-            vec![in alloc; b'['; 1_048_576]?,
-            2,
-            "job-refused not-json node=- name=-\n",
-        ),
-        (
-            vec![in alloc; b'['; 200]?,
-            2,
-            "job-refused not-json node=- name=-\n",
-        ),
-        (
-            deep_job(alloc, 33)?,
-            2,
-            "job-refused too-many node=1 name=depth\n",
-        ),
-        (
-            deep_job(alloc, 32)?,
-            2,
-            "job-refused too-many node=1 name=depth\n",
-        ),
-        (deep_job(alloc, 31)?, 0, "finished job=a\n"),
-    ];
-    for (job, wanted, told) in &cases {
-        let (status, printed, _) = serve_line(alloc, "run", over(job.as_slice(), &[]))?;
-        assert_eq!(rt; status, *wanted);
-        assert_eq!(rt; printed.as_slice(), told.as_bytes());
-    }
-    Ok(())
-}
-
-// Runs the job over one file of these bytes, and gives the status and the text of the commit.
-fn run_file(alloc: Global, file: Vec<u8>) -> Result<(u8, Bytes), NoMemory> {
-    let mut files = Files::new(alloc);
-    files.push(Bytes::from_vec(file))?;
-    let mut tables = Tables::new(alloc);
-    tables.push(Table {
-        table: Bytes::from_slice(alloc, b"orders")?,
-        files,
-    })?;
-    let job = Bytes::from_slice(alloc, JOB.as_bytes())?;
-    let none = numbers(alloc, &[])?;
-    let mut estate = new_estate(alloc, &[])?;
-    let mut inputs = MemInputs::new(alloc, &job, &tables, &none)?;
-    let mut printer = MemPrinter::new(alloc, &none)?;
-    let mut clock = FixedClock::new(alloc, &none)?;
-    let words = words_of(alloc, "run")?;
-    let outcome = run(
-        alloc,
-        words.as_slice(),
-        &mut estate,
-        &mut inputs,
-        &mut printer,
-        &mut clock,
-        &NoGate,
-    );
-    Ok((outcome.status, first_commit(alloc, &estate)?.1))
-}
-
-#[test]
-fn any_bytes_are_a_table(rt: HostRuntime) -> Result<(), Fail> {
-    let alloc = rt.alloc();
-    // One record of many empty cells, one of one cell, and one that is no UTF-8: none has an amount.
-    for byte in [b',', b'"', 255] {
-        let (status, text) = run_file(alloc, vec![in alloc; byte; 100_000]?)?;
-        assert_eq!(rt; status, 0);
-        assert_eq!(rt; text.as_slice(), b"sink out\n".as_slice());
-    }
-    Ok(())
-}
-
-#[test]
-fn a_second_run_commits_nothing_more(rt: HostRuntime) -> Result<(), Fail> {
-    let alloc = rt.alloc();
-    let mut estate = new_estate(alloc, &[])?;
-    let words = words_of(alloc, "run")?;
-    let first = serve(
-        alloc,
-        words.as_slice(),
-        &mut estate,
-        over(JOB.as_bytes(), ORDERS),
-    )?;
-    assert_eq!(rt; first.0, 0);
-    // The same job over other files, and another job of the same name.
-    let other =
-        b"{\"job\":\"orders\",\"nodes\":[{\"op\":\"source\",\"table\":\"t\",\"columns\":[[\"k\",\"int\"]]},{\"op\":\"sink\",\"input\":0,\"name\":\"s\"}]}";
-    for job in [JOB.as_bytes(), other.as_slice()] {
-        let (status, printed) = serve(alloc, words.as_slice(), &mut estate, over(job, &[]))?;
-        assert_eq!(rt; status, 18);
-        assert_eq!(rt; printed.as_slice(), b"not-built commit\n".as_slice());
-    }
-    let reference = words_of(alloc, "reference")?;
-    let shown = serve(
-        alloc,
-        reference.as_slice(),
-        &mut estate,
-        over(JOB.as_bytes(), &[]),
-    )?;
-    assert_eq!(rt; shown.0, 0);
-    assert_eq!(rt; shown.1.as_slice(), b"sink out\n".as_slice());
-    assert_eq!(rt; estate.commits()?.as_slice().len(), 1);
-    assert_eq!(rt;
-        first_commit(alloc, &estate)?.1.as_slice(),
-        COMMITTED.as_bytes()
-    );
-    Ok(())
-}
-
-#[test]
-fn each_fault_has_its_answer(rt: HostRuntime) -> Result<(), Fail> {
-    let alloc = rt.alloc();
-    let none = over(JOB.as_bytes(), ORDERS);
-    let cases: [(&str, Given<'_>, u8, &str, usize); 13] = [
-        (
-            "run",
-            Given {
-                inputs: &[0],
-                ..none
-            },
-            7,
-            "input-fault\n",
-            0,
-        ),
-        (
-            "run",
-            Given {
-                inputs: &[1],
-                ..none
-            },
-            7,
-            "input-fault\n",
-            0,
-        ),
-        (
-            "run",
-            Given {
-                inputs: &[2],
-                ..none
-            },
-            7,
-            "input-fault\n",
-            0,
-        ),
-        (
-            "run",
-            Given {
-                estate: &[0],
-                ..none
-            },
-            6,
-            "sink-fault\n",
-            0,
-        ),
-        (
-            "run",
-            Given {
-                estate: &[1],
-                ..none
-            },
-            6,
-            "sink-fault\n",
-            0,
-        ),
-        (
-            "run",
-            Given {
-                printer: &[0],
-                ..none
-            },
-            8,
-            "",
-            1,
-        ),
-        (
-            "check",
-            Given {
-                inputs: &[0],
-                ..none
-            },
-            7,
-            "input-fault\n",
-            0,
-        ),
-        (
-            "check",
-            Given {
-                inputs: &[1],
-                ..none
-            },
-            0,
-            "ok nodes=3 sinks=1\n",
-            0,
-        ),
-        (
-            "check",
-            Given {
-                printer: &[0],
-                ..none
-            },
-            8,
-            "",
-            0,
-        ),
-        (
-            "reference",
-            Given {
-                inputs: &[1],
-                ..none
-            },
-            7,
-            "input-fault\n",
-            0,
-        ),
-        (
-            "reference",
-            Given {
-                inputs: &[2],
-                ..none
-            },
-            7,
-            "input-fault\n",
-            0,
-        ),
-        (
-            "reference",
-            Given {
-                estate: &[0],
-                ..none
-            },
-            0,
-            COMMITTED,
-            0,
-        ),
-        (
-            "runs",
-            Given {
-                printer: &[0],
-                ..none
-            },
-            1,
-            "",
-            0,
-        ),
-    ];
-    for (line, given, wanted, told, wanted_commits) in cases {
-        let (status, printed, commits) = serve_line(alloc, line, given)?;
-        assert_eq!(rt; status, wanted);
-        assert_eq!(rt; printed.as_slice(), told.as_bytes());
-        assert_eq!(rt; commits, wanted_commits);
-    }
     Ok(())
 }

@@ -1,9 +1,11 @@
-ghost use Rattle.std.specs.Prelude.{MatchResult};
+ghost use Rattle.std.specs.Prelude.{Ok, [], MatchResult};
 ghost use Rattle.estate.specs.Contents.{KeepsContents};
-ghost use Rattle.batch_main.specs.Causes.{WhyNotShown};
+ghost use Rattle.batch_main.specs.Causes.{LookCause};
+ghost use Rattle.batch_main.specs.Outcomes.{IsMet};
+ghost use Rattle.batch_main.specs.Refusals.{answer_to};
 ghost use Rattle.batch_main.specs.Views.{Shows};
 
-use crate::accepted_job::accept;
+use crate::accepted_job::read_accepted_job;
 use crate::refusal::Refusal;
 use crate::tables::{list_tables, text_over};
 use crate::view::View;
@@ -17,17 +19,20 @@ use std::alloc::Global;
 pub fn view_text<I: Inputs>(alloc: Global, view: View, inputs: &mut I) -> Result<Bytes, Refusal>
     ensures why { MatchResult result
         (Shows view (I.contents inputs.old))
-        (WhyNotShown (I.contents inputs.old) (I.contents inputs.new)) }
+        (λ refusal. LookCause (Ok view) []
+        (I.contents inputs.old) (I.contents inputs.new) (answer_to refusal)) }
     ensures keeps { KeepsContents (I.contents inputs.old) (I.contents inputs.new) }
+    ensures met { IsMet Refusal.InputFault
+        (I.contents inputs.old).faults (I.contents inputs.new).faults result }
 {
     let text = inputs.job_text()?;
-    let job = accept(alloc, &text)?;
+    let job = read_accepted_job(alloc, &text)?;
     match view {
         View::Check => Ok(check_text(alloc, &job.plan)?),
         View::Plan => Ok(plan_text(alloc, &job.plan)?),
         View::Reference => {
             let tables = list_tables(alloc, inputs, &job.plan)?;
-            text_over(alloc, inputs, &job.plan, tables)
+            Ok(text_over(alloc, inputs, &job.plan, tables)?)
         }
     }
 }

@@ -1,17 +1,17 @@
-use Rattle.std.proofs.Common.{rules, ◌≡◌, ℕ, Bool, false, Some, None, Option, List, ◌∷◌, ◌++◌, [], is_some, Result, Err, refl, sym, subst, ◌∙◌, ap, inl, inr}
-use Rattle.std.specs.Prelude.{OnErr}
+use Rattle.std.proofs.Common.{rules, arith, ◌≡◌, ℕ, Bool, false, Some, None, Option, List, ◌∷◌, ◌++◌, [], is_some, Result, Err, refl, sym, subst, ◌∙◌, ap, inl, inr}
+use Rattle.std.specs.Prelude.{IfErr}
 use Rattle.estate.specs.Changes.{Leads, Rose, Same, Stays}
 use Rattle.estate.specs.World.{World}
 use Rattle.estate.specs.declared.estate_error.EstateError.{EstateError}
 use Rattle.estate.specs.declared.estate_error.EstateError.TheVariants as estate
 use Rattle.estate.specs.declared.commit.Commit.{Commit}
-use Rattle.estate.proofs.ContentsKept.{keeps_contents_on}
-use Rattle.estate.proofs.Leading.{leads_after, leads_stays, rose_later, told_on}
+use Rattle.estate.proofs.Laws.{keeps_contents_on}
+use Rattle.estate.proofs.Laws.{leads_after, leads_stays, rose_later, told_on}
 use Rattle.batch_main.specs.Answers.{printed_line}
 use Rattle.batch_main.specs.declared.answer.Answer.TheVariants.{Finished}
 use Rattle.batch_main.specs.Commits.{StaysUnlessFailed}
 use Rattle.batch_main.specs.Jobs.{IsAccepted, job_of}
-use Rattle.batch_main.specs.Refusals.{estate_refusal}
+use Rattle.batch_main.specs.Refusals.{answer_to, estate_refusal}
 use Rattle.batch_main.specs.declared.refusal.Refusal.{Refusal}
 use Rattle.batch_main.proofs.Committing.{is_commit_of}
 use Rattle.batch_main.proofs.OneCommit.{once_under}
@@ -25,11 +25,12 @@ pub returns-in_err-sink_commit-clause-adds : goal.returns-in_err-sink_commit-cla
 returns-in_err-sink_commit-clause-adds g c =
     let contents = g.I.Inputs.contents in
     let law = g.met.E.Estate.lawful in
-    let keeps = keeps_contents_on (contents c.args.inputs.now) (contents c.job_text.new.self) (contents c.list_tables.new.inputs) c.job_text.ensures.keeps c.list_tables.ensures.keeps in
+    let keeps = keeps_contents_on (contents c.args.inputs.now) (contents c.job_text.new.self) (contents c.list_tables.new.inputs) c.job_text.ensures.keeps c.list_tables.ensures.reads.keeps in
     record {
       commit = Some (record { id = c.in_ok-job.job.name; job = c.in_ok-job.job.text; text = c.in_ok-committed.committed });
       is = is_commit_of (contents c.args.inputs.now) (contents c.list_tables.new.inputs) keeps c.in_ok-text.text c.in_ok-text.ensures.text c.in_ok-job.job c.in_ok-job.ensures.accepted
           c.in_ok-job.ensures.text c.in_ok-committed.committed c.in_ok-committed.ensures.text;
+      free = λ told. sym (c.in_ok-sink_committed.ensures.found told) ∙ nothing_found c.in_ok-sink_committed.field-0 c.is_some.result c.is_some.ensures c.if-is_some.false;
       leads = leads_after Same None (Some _) _ _ _ (law c.args.estate.now) (law c.sink_committed.new.self) (law c.sink_commit.new.self) (λ log. refl) c.sink_committed.ensures.leads c.sink_commit.ensures.leads;
     }
 
@@ -37,11 +38,12 @@ pub returns-clause-adds : goal.returns-clause-adds
 returns-clause-adds g c =
     let contents = g.I.Inputs.contents in
     let law = g.met.E.Estate.lawful in
-    let keeps = keeps_contents_on (contents c.args.inputs.now) (contents c.job_text.new.self) (contents c.list_tables.new.inputs) c.job_text.ensures.keeps c.list_tables.ensures.keeps in
+    let keeps = keeps_contents_on (contents c.args.inputs.now) (contents c.job_text.new.self) (contents c.list_tables.new.inputs) c.job_text.ensures.keeps c.list_tables.ensures.reads.keeps in
     record {
       commit = Some (record { id = c.in_ok-job.job.name; job = c.in_ok-job.job.text; text = c.in_ok-committed.committed });
       is = is_commit_of (contents c.args.inputs.now) (contents c.list_tables.new.inputs) keeps c.in_ok-text.text c.in_ok-text.ensures.text c.in_ok-job.job c.in_ok-job.ensures.accepted
           c.in_ok-job.ensures.text c.in_ok-committed.committed c.in_ok-committed.ensures.text;
+      free = λ told. sym (c.in_ok-sink_committed.ensures.found told) ∙ nothing_found c.in_ok-sink_committed.field-0 c.is_some.result c.is_some.ensures c.if-is_some.false;
       leads = leads_after Same None (Some _) _ _ _ (law c.args.estate.now) (law c.sink_committed.new.self) (law c.sink_commit.new.self) (λ log. refl) c.sink_committed.ensures.leads c.sink_commit.ensures.leads;
     }
 
@@ -51,7 +53,7 @@ returns-clause-why g c =
     let world = g.E.Estate.world in
     let job = c.in_ok-job.job in
     let text = c.in_ok-text.text in
-    let keeps = keeps_contents_on (contents c.args.inputs.now) (contents c.job_text.new.self) (contents c.list_tables.new.inputs) c.job_text.ensures.keeps c.list_tables.ensures.keeps in
+    let keeps = keeps_contents_on (contents c.args.inputs.now) (contents c.job_text.new.self) (contents c.list_tables.new.inputs) c.job_text.ensures.keeps c.list_tables.ensures.reads.keeps in
     let commit : Commit = record { id = job.name; job = job.text; text = c.in_ok-committed.committed } in
     let asked = c.sink_committed.ensures.leads in
     record {
@@ -75,9 +77,11 @@ returns-clause-why g c =
 
 -- a commit that was refused for want of memory changed nothing, and any other counted a fault
 unless_failed : {T : Type 0} (error : EstateError) (old new : World) (result : Result T Refusal) → result ≡ Err (estate_refusal error) → (error ≡ estate.Failed → Rose old.counts.sink_faults new.counts.sink_faults)
-    → (error ≡ estate.NoMemory → Leads Stays old new) → OnErr result (StaysUnlessFailed old new)
-unless_failed {T} estate.Failed old new result is failed memory = subst (λ (r : Result T Refusal). OnErr r (StaysUnlessFailed old new)) (sym is) (inl (failed refl))
-unless_failed {T} estate.NoMemory old new result is failed memory = subst (λ (r : Result T Refusal). OnErr r (StaysUnlessFailed old new)) (sym is) (inr (memory refl))
+    → (error ≡ estate.NoMemory → Leads Stays old new) → IfErr result (λ refusal. StaysUnlessFailed old new (answer_to refusal))
+unless_failed {T} estate.Failed old new result is failed memory =
+    subst (λ (r : Result T Refusal). IfErr r (λ refusal. StaysUnlessFailed old new (answer_to refusal))) (sym is) (inr ((0, omega arith, refl), failed refl))
+unless_failed {T} estate.NoMemory old new result is failed memory =
+    subst (λ (r : Result T Refusal). IfErr r (λ refusal. StaysUnlessFailed old new (answer_to refusal))) (sym is) (inl (memory refl))
 
 pub returns-in_err-sink_commit-clause-stays : goal.returns-in_err-sink_commit-clause-stays
 returns-in_err-sink_commit-clause-stays g c =

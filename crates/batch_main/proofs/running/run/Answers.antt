@@ -1,40 +1,228 @@
-use Rattle.std.proofs.Common.{Contains, [], ◌∷◌, map, refl, sym, subst}
-use Rattle.std.specs.Prelude.{string_bytes, IfSome}
+use Rattle.std.proofs.Common.{map, sym, subst}
+use Rattle.std.specs.Prelude.{string_bytes}
+use Rattle.batch_main.specs.Causes.{outside}
 use Rattle.batch_main.specs.Orders.{run_refusal}
-use Rattle.batch_main.specs.Refusals.{answer_to}
+use Rattle.batch_main.specs.Outcomes.{RunOutcome}
 use Rattle.batch_main.specs.declared.answer.Answer.{Answer}
-use Rattle.batch_main.specs.declared.answer.Answer.TheVariants.{SinkFault, InputFault, NotBuilt, NoMemory}
-use Rattle.batch_main.specs.declared.refusal.Refusal.TheVariants.{JobRefused}
-use Rattle.batch_main.specs.declared.unbuilt.Unbuilt.TheVariants.{Commit}
-use Rattle.batch_main.proofs.RunClauses.{is_none, refused_always, taken_refused, words_told}
+use Rattle.batch_main.proofs.RunClauses as clauses
 use Rattle.batch_main.proofs.running.run.Goals as goal
+
+pub returns-clause-committed : goal.returns-clause-committed
+returns-clause-committed g c =
+    let words = map string_bytes c.args.words.now in
+    let old = outside (g.I.Inputs.contents c.args.inputs.now) (g.E.Estate.world c.args.estate.now) in
+    let new = outside (g.I.Inputs.contents c.run_answer.new.inputs) (g.E.Estate.world c.run_answer.new.estate) in
+    let before = g.P.Printer.printed c.args.printer.now in
+    let after = g.P.Printer.printed c.run_answer.new.printer in
+    let o : RunOutcome words old new before after c.new.result.answer =
+    subst (λ (a : Answer). RunOutcome words old new before after a) (sym c.new.ensures.answer) c.run_answer.ensures in
+    clauses.committed words old new before after c.new.result.answer o
+
+pub returns-clause-usage : goal.returns-clause-usage
+returns-clause-usage g c =
+    let words = map string_bytes c.args.words.now in
+    let old = outside (g.I.Inputs.contents c.args.inputs.now) (g.E.Estate.world c.args.estate.now) in
+    let new = outside (g.I.Inputs.contents c.run_answer.new.inputs) (g.E.Estate.world c.run_answer.new.estate) in
+    let before = g.P.Printer.printed c.args.printer.now in
+    let after = g.P.Printer.printed c.run_answer.new.printer in
+    let o : RunOutcome words old new before after c.new.result.answer =
+    subst (λ (a : Answer). RunOutcome words old new before after a) (sym c.new.ensures.answer) c.run_answer.ensures in
+    clauses.usage words old new before after c.new.result.answer o
+
+pub returns-clause-unbuilt : goal.returns-clause-unbuilt
+returns-clause-unbuilt g c =
+    let words = map string_bytes c.args.words.now in
+    let old = outside (g.I.Inputs.contents c.args.inputs.now) (g.E.Estate.world c.args.estate.now) in
+    let new = outside (g.I.Inputs.contents c.run_answer.new.inputs) (g.E.Estate.world c.run_answer.new.estate) in
+    let before = g.P.Printer.printed c.args.printer.now in
+    let after = g.P.Printer.printed c.run_answer.new.printer in
+    let o : RunOutcome words old new before after c.new.result.answer =
+    subst (λ (a : Answer). RunOutcome words old new before after a) (sym c.new.ensures.answer) c.run_answer.ensures in
+    clauses.not_built words old new before after c.new.result.answer o
+
+pub returns-clause-refused : goal.returns-clause-refused
+returns-clause-refused g c =
+    let words = map string_bytes c.args.words.now in
+    let old = outside (g.I.Inputs.contents c.args.inputs.now) (g.E.Estate.world c.args.estate.now) in
+    let new = outside (g.I.Inputs.contents c.run_answer.new.inputs) (g.E.Estate.world c.run_answer.new.estate) in
+    let before = g.P.Printer.printed c.args.printer.now in
+    let after = g.P.Printer.printed c.run_answer.new.printer in
+    let o : RunOutcome words old new before after c.new.result.answer =
+    subst (λ (a : Answer). RunOutcome words old new before after a) (sym c.new.ensures.answer) c.run_answer.ensures in
+    clauses.refused_for words old new before after c.new.result.answer o
+
+pub returns-clause-id_taken : goal.returns-clause-id_taken
+returns-clause-id_taken g c =
+    let words = map string_bytes c.args.words.now in
+    let old = outside (g.I.Inputs.contents c.args.inputs.now) (g.E.Estate.world c.args.estate.now) in
+    let new = outside (g.I.Inputs.contents c.run_answer.new.inputs) (g.E.Estate.world c.run_answer.new.estate) in
+    let before = g.P.Printer.printed c.args.printer.now in
+    let after = g.P.Printer.printed c.run_answer.new.printer in
+    let o : RunOutcome words old new before after c.new.result.answer =
+    subst (λ (a : Answer). RunOutcome words old new before after a) (sym c.new.ensures.answer) c.run_answer.ensures in
+    clauses.taken words old new before after c.new.result.answer o
+
+pub returns-clause-input_fault : goal.returns-clause-input_fault
+returns-clause-input_fault g c =
+    let words = map string_bytes c.args.words.now in
+    let old = outside (g.I.Inputs.contents c.args.inputs.now) (g.E.Estate.world c.args.estate.now) in
+    let new = outside (g.I.Inputs.contents c.run_answer.new.inputs) (g.E.Estate.world c.run_answer.new.estate) in
+    let before = g.P.Printer.printed c.args.printer.now in
+    let after = g.P.Printer.printed c.run_answer.new.printer in
+    let o : RunOutcome words old new before after c.new.result.answer =
+    subst (λ (a : Answer). RunOutcome words old new before after a) (sym c.new.ensures.answer) c.run_answer.ensures in
+    clauses.input_fault words old new before after c.new.result.answer o
+
+pub returns-clause-sink_fault : goal.returns-clause-sink_fault
+returns-clause-sink_fault g c =
+    let words = map string_bytes c.args.words.now in
+    let old = outside (g.I.Inputs.contents c.args.inputs.now) (g.E.Estate.world c.args.estate.now) in
+    let new = outside (g.I.Inputs.contents c.run_answer.new.inputs) (g.E.Estate.world c.run_answer.new.estate) in
+    let before = g.P.Printer.printed c.args.printer.now in
+    let after = g.P.Printer.printed c.run_answer.new.printer in
+    let o : RunOutcome words old new before after c.new.result.answer =
+    subst (λ (a : Answer). RunOutcome words old new before after a) (sym c.new.ensures.answer) c.run_answer.ensures in
+    clauses.sink_fault words old new before after c.new.result.answer o
+
+pub returns-clause-print_fault : goal.returns-clause-print_fault
+returns-clause-print_fault g c =
+    let words = map string_bytes c.args.words.now in
+    let old = outside (g.I.Inputs.contents c.args.inputs.now) (g.E.Estate.world c.args.estate.now) in
+    let new = outside (g.I.Inputs.contents c.run_answer.new.inputs) (g.E.Estate.world c.run_answer.new.estate) in
+    let before = g.P.Printer.printed c.args.printer.now in
+    let after = g.P.Printer.printed c.run_answer.new.printer in
+    let o : RunOutcome words old new before after c.new.result.answer =
+    subst (λ (a : Answer). RunOutcome words old new before after a) (sym c.new.ensures.answer) c.run_answer.ensures in
+    clauses.print_fault words old new before after c.new.result.answer o
+
+pub returns-clause-print_fault_commits : goal.returns-clause-print_fault_commits
+returns-clause-print_fault_commits g c =
+    let words = map string_bytes c.args.words.now in
+    let old = outside (g.I.Inputs.contents c.args.inputs.now) (g.E.Estate.world c.args.estate.now) in
+    let new = outside (g.I.Inputs.contents c.run_answer.new.inputs) (g.E.Estate.world c.run_answer.new.estate) in
+    let before = g.P.Printer.printed c.args.printer.now in
+    let after = g.P.Printer.printed c.run_answer.new.printer in
+    let o : RunOutcome words old new before after c.new.result.answer =
+    subst (λ (a : Answer). RunOutcome words old new before after a) (sym c.new.ensures.answer) c.run_answer.ensures in
+    clauses.print_fault_commits words old new before after c.new.result.answer o
+
+pub returns-clause-print_met : goal.returns-clause-print_met
+returns-clause-print_met g c =
+    let words = map string_bytes c.args.words.now in
+    let old = outside (g.I.Inputs.contents c.args.inputs.now) (g.E.Estate.world c.args.estate.now) in
+    let new = outside (g.I.Inputs.contents c.run_answer.new.inputs) (g.E.Estate.world c.run_answer.new.estate) in
+    let before = g.P.Printer.printed c.args.printer.now in
+    let after = g.P.Printer.printed c.run_answer.new.printer in
+    let o : RunOutcome words old new before after c.new.result.answer =
+    subst (λ (a : Answer). RunOutcome words old new before after a) (sym c.new.ensures.answer) c.run_answer.ensures in
+    clauses.print_met words old new before after c.new.result.answer o
+
+pub returns-clause-adds : goal.returns-clause-adds
+returns-clause-adds g c =
+    let words = map string_bytes c.args.words.now in
+    let old = outside (g.I.Inputs.contents c.args.inputs.now) (g.E.Estate.world c.args.estate.now) in
+    let new = outside (g.I.Inputs.contents c.run_answer.new.inputs) (g.E.Estate.world c.run_answer.new.estate) in
+    let before = g.P.Printer.printed c.args.printer.now in
+    let after = g.P.Printer.printed c.run_answer.new.printer in
+    let o : RunOutcome words old new before after c.new.result.answer =
+    subst (λ (a : Answer). RunOutcome words old new before after a) (sym c.new.ensures.answer) c.run_answer.ensures in
+    o.adds
+
+pub returns-clause-stays : goal.returns-clause-stays
+returns-clause-stays g c =
+    let words = map string_bytes c.args.words.now in
+    let old = outside (g.I.Inputs.contents c.args.inputs.now) (g.E.Estate.world c.args.estate.now) in
+    let new = outside (g.I.Inputs.contents c.run_answer.new.inputs) (g.E.Estate.world c.run_answer.new.estate) in
+    let before = g.P.Printer.printed c.args.printer.now in
+    let after = g.P.Printer.printed c.run_answer.new.printer in
+    let o : RunOutcome words old new before after c.new.result.answer =
+    subst (λ (a : Answer). RunOutcome words old new before after a) (sym c.new.ensures.answer) c.run_answer.ensures in
+    o.stays
+
+pub returns-clause-input_met : goal.returns-clause-input_met
+returns-clause-input_met g c =
+    let words = map string_bytes c.args.words.now in
+    let old = outside (g.I.Inputs.contents c.args.inputs.now) (g.E.Estate.world c.args.estate.now) in
+    let new = outside (g.I.Inputs.contents c.run_answer.new.inputs) (g.E.Estate.world c.run_answer.new.estate) in
+    let before = g.P.Printer.printed c.args.printer.now in
+    let after = g.P.Printer.printed c.run_answer.new.printer in
+    let o : RunOutcome words old new before after c.new.result.answer =
+    subst (λ (a : Answer). RunOutcome words old new before after a) (sym c.new.ensures.answer) c.run_answer.ensures in
+    o.input_met
+
+pub returns-clause-sink_met : goal.returns-clause-sink_met
+returns-clause-sink_met g c =
+    let words = map string_bytes c.args.words.now in
+    let old = outside (g.I.Inputs.contents c.args.inputs.now) (g.E.Estate.world c.args.estate.now) in
+    let new = outside (g.I.Inputs.contents c.run_answer.new.inputs) (g.E.Estate.world c.run_answer.new.estate) in
+    let before = g.P.Printer.printed c.args.printer.now in
+    let after = g.P.Printer.printed c.run_answer.new.printer in
+    let o : RunOutcome words old new before after c.new.result.answer =
+    subst (λ (a : Answer). RunOutcome words old new before after a) (sym c.new.ensures.answer) c.run_answer.ensures in
+    o.sink_met
+
+pub returns-clause-outcome : goal.returns-clause-outcome
+returns-clause-outcome g c =
+    let words = map string_bytes c.args.words.now in
+    let old = outside (g.I.Inputs.contents c.args.inputs.now) (g.E.Estate.world c.args.estate.now) in
+    let new = outside (g.I.Inputs.contents c.run_answer.new.inputs) (g.E.Estate.world c.run_answer.new.estate) in
+    let before = g.P.Printer.printed c.args.printer.now in
+    let after = g.P.Printer.printed c.run_answer.new.printer in
+    let o : RunOutcome words old new before after c.new.result.answer =
+    subst (λ (a : Answer). RunOutcome words old new before after a) (sym c.new.ensures.answer) c.run_answer.ensures in
+    o
+
+pub returns-clause-once : goal.returns-clause-once
+returns-clause-once g c =
+    let words = map string_bytes c.args.words.now in
+    let old = outside (g.I.Inputs.contents c.args.inputs.now) (g.E.Estate.world c.args.estate.now) in
+    let new = outside (g.I.Inputs.contents c.run_answer.new.inputs) (g.E.Estate.world c.run_answer.new.estate) in
+    let before = g.P.Printer.printed c.args.printer.now in
+    let after = g.P.Printer.printed c.run_answer.new.printer in
+    let o : RunOutcome words old new before after c.new.result.answer =
+    subst (λ (a : Answer). RunOutcome words old new before after a) (sym c.new.ensures.answer) c.run_answer.ensures in
+    λ name. clauses.stays_taken old.inputs old.estate new.estate name o.adds
 
 pub returns-clause-words : goal.returns-clause-words
 returns-clause-words g c =
-    let contents = g.I.Inputs.contents in
-    let world = g.E.Estate.world in
-    let printed = g.P.Printer.printed in
-    let words = run_refusal (map string_bytes c.args.words.now) in
-    subst (λ (a : Answer). IfSome words (λ r. Contains (answer_to r ∷ NoMemory ∷ []) a)) (sym c.new.ensures.answer)
-    (words_told words (contents c.args.inputs.now) (contents c.run_answer.new.inputs) (world c.args.estate.now) (world c.run_answer.new.estate)
-    (printed c.args.printer.now) (printed c.run_answer.new.printer) words refl c.run_answer.result c.run_answer.ensures.cause)
+    let words = map string_bytes c.args.words.now in
+    let old = outside (g.I.Inputs.contents c.args.inputs.now) (g.E.Estate.world c.args.estate.now) in
+    let new = outside (g.I.Inputs.contents c.run_answer.new.inputs) (g.E.Estate.world c.run_answer.new.estate) in
+    let before = g.P.Printer.printed c.args.printer.now in
+    let after = g.P.Printer.printed c.run_answer.new.printer in
+    let o : RunOutcome words old new before after c.new.result.answer =
+    subst (λ (a : Answer). RunOutcome words old new before after a) (sym c.new.ensures.answer) c.run_answer.ensures in
+    clauses.words_refuse (run_refusal words) o.line old new c.new.result.answer o.cause
 
 pub returns-clause-refused_always : goal.returns-clause-refused_always
-returns-clause-refused_always g c = λ none fault told has.
-    let contents = g.I.Inputs.contents in
-    let world = g.E.Estate.world in
-    let printed = g.P.Printer.printed in
-    let words = run_refusal (map string_bytes c.args.words.now) in
-    subst (λ (a : Answer). Contains (answer_to (JobRefused fault) ∷ InputFault ∷ NoMemory ∷ []) a) (sym c.new.ensures.answer)
-    (refused_always words (contents c.args.inputs.now) (contents c.run_answer.new.inputs) (world c.args.estate.now) (world c.run_answer.new.estate)
-    (printed c.args.printer.now) (printed c.run_answer.new.printer) fault c.run_answer.result c.run_answer.ensures.cause (is_none words none) told has)
+returns-clause-refused_always g c =
+    let words = map string_bytes c.args.words.now in
+    let old = outside (g.I.Inputs.contents c.args.inputs.now) (g.E.Estate.world c.args.estate.now) in
+    let new = outside (g.I.Inputs.contents c.run_answer.new.inputs) (g.E.Estate.world c.run_answer.new.estate) in
+    let before = g.P.Printer.printed c.args.printer.now in
+    let after = g.P.Printer.printed c.run_answer.new.printer in
+    let o : RunOutcome words old new before after c.new.result.answer =
+    subst (λ (a : Answer). RunOutcome words old new before after a) (sym c.new.ensures.answer) c.run_answer.ensures in
+    λ none fault told has. clauses.refused_always (run_refusal words) o.line old new fault c.new.result.answer o.cause (clauses.is_none (run_refusal words) none) told has
 
-pub returns-clause-taken_refused : goal.returns-clause-taken_refused
-returns-clause-taken_refused g c = λ none told held job accepted some.
-    let contents = g.I.Inputs.contents in
-    let world = g.E.Estate.world in
-    let printed = g.P.Printer.printed in
-    let words = run_refusal (map string_bytes c.args.words.now) in
-    subst (λ (a : Answer). Contains (NotBuilt Commit ∷ InputFault ∷ SinkFault ∷ NoMemory ∷ []) a) (sym c.new.ensures.answer)
-    (taken_refused words (contents c.args.inputs.now) (contents c.run_answer.new.inputs) (world c.args.estate.now) (world c.run_answer.new.estate)
-    (printed c.args.printer.now) (printed c.run_answer.new.printer) c.run_answer.result c.run_answer.ensures.cause (is_none words none) told held job accepted some)
+pub returns-clause-id_taken_always : goal.returns-clause-id_taken_always
+returns-clause-id_taken_always g c =
+    let words = map string_bytes c.args.words.now in
+    let old = outside (g.I.Inputs.contents c.args.inputs.now) (g.E.Estate.world c.args.estate.now) in
+    let new = outside (g.I.Inputs.contents c.run_answer.new.inputs) (g.E.Estate.world c.run_answer.new.estate) in
+    let before = g.P.Printer.printed c.args.printer.now in
+    let after = g.P.Printer.printed c.run_answer.new.printer in
+    let o : RunOutcome words old new before after c.new.result.answer =
+    subst (λ (a : Answer). RunOutcome words old new before after a) (sym c.new.ensures.answer) c.run_answer.ensures in
+    λ none name. clauses.taken_refused (run_refusal words) o.line old new c.new.result.answer o.cause (clauses.is_none (run_refusal words) none) name
+
+pub returns-clause-completes : goal.returns-clause-completes
+returns-clause-completes g c =
+    let words = map string_bytes c.args.words.now in
+    let old = outside (g.I.Inputs.contents c.args.inputs.now) (g.E.Estate.world c.args.estate.now) in
+    let new = outside (g.I.Inputs.contents c.run_answer.new.inputs) (g.E.Estate.world c.run_answer.new.estate) in
+    let before = g.P.Printer.printed c.args.printer.now in
+    let after = g.P.Printer.printed c.run_answer.new.printer in
+    let o : RunOutcome words old new before after c.new.result.answer =
+    subst (λ (a : Answer). RunOutcome words old new before after a) (sym c.new.ensures.answer) c.run_answer.ensures in
+    λ none name reads commits shows. clauses.completes (run_refusal words) o.line old new before after c.new.result.answer o.cause o.prints (clauses.is_none (run_refusal words) none) name reads commits shows

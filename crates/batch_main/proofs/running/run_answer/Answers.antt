@@ -1,18 +1,15 @@
-use Rattle.std.proofs.Common.{map, refl}
+use Rattle.std.proofs.Common.{map}
 use Rattle.std.specs.Prelude.{string_bytes}
-use Rattle.batch_main.specs.Causes.{HasFinished, WhyNotRun}
-use Rattle.batch_main.specs.Orders.{run_refusal}
-use Rattle.batch_main.specs.declared.answer.Answer.TheVariants.{Finished}
-use Rattle.batch_main.proofs.CauseLemmas.{cause_told}
+use Rattle.batch_main.specs.Causes.{outside}
+use Rattle.batch_main.proofs.Ends.{run_ends}
 use Rattle.batch_main.proofs.running.run_answer.Goals as goal
 
-pub returns-clause-cause : goal.returns-clause-cause
-returns-clause-cause g c =
-    let contents = g.I.Inputs.contents in
-    let world = g.E.Estate.world in
-    let printed = g.P.Printer.printed in
-    let from = contents c.args.inputs.now in
-    let old = world c.args.estate.now in
-    let new = world c.run_line-made.new.estate in
-    cause_told (run_refusal (map string_bytes c.args.words.now)) Finished (HasFinished from old new) (WhyNotRun from (contents c.run_line-made.new.inputs) old new)
-    (printed c.args.printer.now) (printed c.tell.new.printer) (λ d. (refl, d)) c.run_line-made.result c.tell.result c.run_line-made.ensures.why c.tell.ensures
+pub returns : goal.returns
+returns g c =
+    let words = map string_bytes c.args.words.now in
+    let old = outside (g.I.Inputs.contents c.args.inputs.now) (g.E.Estate.world c.args.estate.now) in
+    let new = outside (g.I.Inputs.contents c.run_line-line.new.inputs) (g.E.Estate.world c.run_line-line.new.estate) in
+    let before = g.P.Printer.printed c.args.printer.now in
+    let after = g.P.Printer.printed c.print_outcome.new.printer in
+    let line = c.run_line-line.ensures in
+    run_ends words old new before after c.run_line-line.result c.print_outcome.result line.why line.stays line.adds line.input_met line.sink_met c.print_outcome.ensures

@@ -1,7 +1,7 @@
-use Rattle.std.proofs.Common.{◌≡◌, length}
-use Rattle.estate.proofs.ContentsKept.{keeps_contents_on}
+use Rattle.std.proofs.Common.{◌≡◌, ◌∙◌, length}
+use Rattle.estate.proofs.Laws.{keeps_contents_on}
 use Rattle.batch_main.specs.declared.listed_table.ListedTable.{ListedTable}
-use Rattle.batch_main.proofs.OwnTables.{all_rest, read_more}
+use Rattle.batch_main.proofs.OwnTables.{all_rest, read_more, steady_ok}
 use Rattle.batch_main.proofs.tables.read_tables.Goals as goal
 
 pub loop-table-preserved : goal.loop-table-preserved
@@ -12,7 +12,8 @@ loop-table-preserved g c =
     let kept = c.loop-table.invariant.keeps in
     let next = (c.in-Some.ensures.steps).0 in
     record {
-      keeps = keeps_contents_on from before (contents c.read_table.new.inputs) kept c.read_table.ensures.keeps;
+      keeps = keeps_contents_on from before (contents c.read_table.new.inputs) kept c.read_table.ensures.reads.keeps;
+      steady = steady_ok c.read_table.result _ _ _ c.in_ok-read_table.was c.read_table.ensures.reads.steady ∙ c.loop-table.invariant.steady;
       right = λ told. all_rest (λ (table : ListedTable). table.files ≡ length (from.files table.table)) c.in-Some.table _ _ next (c.loop-table.invariant.right told);
       made = λ told. read_more from before kept told c.loop-table.made.items c.push.new.self.items c.in_ok-read_table.field-0 c.in-Some.table _ _ _ next
           c.in_ok-push.ensures.items c.in_ok-read_table.ensures.files (c.loop-table.invariant.made told);

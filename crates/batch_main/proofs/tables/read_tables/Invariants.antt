@@ -8,6 +8,7 @@ use Rattle.batch_main.proofs.tables.read_tables.Given as goal
 abbrev pub invariant-loop-table : goal.invariant-loop-table
 invariant-loop-table g l = let files = (g.I.Inputs.contents l.initial.inputs).files in record {
   keeps : KeepsContents (g.I.Inputs.contents l.initial.inputs) (g.I.Inputs.contents l.inputs);
+  steady : (g.I.Inputs.contents l.inputs).faults ≡ (g.I.Inputs.contents l.initial.inputs).faults;
   right : IsTrue (g.I.Inputs.contents l.initial.inputs).told → All (λ table. table.files ≡ length (files table.table)) (into_iter_items l.table-iterator);
   made : IsTrue (g.I.Inputs.contents l.initial.inputs).told → l.made.items ++ with_files files (map (λ table. table.table) (into_iter_items l.table-iterator))
       ≡ with_files files (map (λ table. table.table) l.fn.tables.items);
