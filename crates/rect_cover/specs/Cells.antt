@@ -14,7 +14,8 @@ abbrev pub rects_of : Reads → ℕ → List Rect
 rects_of subtask input = slice_index_or subtask input []
 
 abbrev pub is_inside : Rect → ℕ → ℕ → Bool
-is_inside rect p s = (nat_le rect.p0 p && nat_lt p rect.p1) && (nat_le rect.s0 s && nat_lt s rect.s1)
+is_inside rect p s =
+    (nat_le rect.p0 p && nat_lt p rect.p1) && (nat_le rect.s0 s && nat_lt s rect.s1)
 
 -- how often the cell stands in the rects
 abbrev pub times : List Rect → ℕ → ℕ → ℕ
@@ -27,7 +28,8 @@ times_in_all subtasks input p s = sum_by (λ subtask. times (rects_of subtask in
 -- how often a cell of the one input and a cell of the other stand together, in all subtasks
 abbrev pub pairs_in_all : List Reads → ℕ → ℕ → ℕ → ℕ → ℕ → ℕ
 pairs_in_all subtasks input other p q s =
-    sum_by (λ subtask. times (rects_of subtask input) p s * times (rects_of subtask other) q s) subtasks
+    sum_by (λ subtask. times (rects_of subtask input) p s * times (rects_of subtask other) q s)
+    subtasks
 
 -- a rect has cells of the column
 abbrev pub touches : List Rect → ℕ → Bool

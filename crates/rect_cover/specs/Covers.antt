@@ -8,7 +8,8 @@ use Rattle.rect_cover.specs.declared.shape.Shape.{Shape}
 use Rattle.rect_cover.specs.declared.shape_kind.ShapeKind.{ShapeKind}
 use Rattle.rect_cover.specs.declared.shape_kind.ShapeKind.TheVariants.{RowWise, Keyed, LeftDriven}
 use Rattle.rect_cover.specs.declared.shape_kind.ShapeKind.TheVariants.{RightDriven, Inner, Full}
-use Rattle.rect_cover.specs.Cells.{Reads, rects_of, times, times_in_all, pairs_in_all, touches, touching}
+use Rattle.rect_cover.specs.Cells.{Reads, rects_of, times, times_in_all, pairs_in_all}
+use Rattle.rect_cover.specs.Cells.{touches, touching}
 
 -- a rect that has cells, all of them the grid's
 pub record LiesIn (grid : Grid) (rect : Rect) : Type 0 where
@@ -46,18 +47,21 @@ pub record HasPartners (left right : Grid) (lefts rights : List Rect) : Type 0 w
       → q < right.producers → s < right.cells → 0 < times lefts p s → times rights q s ≡ 1
 
 -- each left cell is in exactly one subtask, which has every right cell of its column
-pub record IsDriven (left : Grid) (input : ℕ) (right : Grid) (other : ℕ) (subtasks : List Reads) : Type 0 where
+pub record IsDriven (left : Grid) (input : ℕ) (right : Grid) (other : ℕ)
+    (subtasks : List Reads) : Type 0 where
   pub once : EachOnce left input subtasks
   pub partners : All (λ subtask.
       HasPartners left right (rects_of subtask input) (rects_of subtask other)) subtasks
 
 -- in each column each pair of a left and a right cell is in exactly one subtask
-pub record EachPair (left : Grid) (input : ℕ) (right : Grid) (other : ℕ) (subtasks : List Reads) : Type 0 where
+pub record EachPair (left : Grid) (input : ℕ) (right : Grid) (other : ℕ)
+    (subtasks : List Reads) : Type 0 where
   pub once : (p q s : ℕ) → p < left.producers → s < left.cells
       → q < right.producers → s < right.cells → pairs_in_all subtasks input other p q s ≡ 1
 
 -- each column is in exactly one subtask, whole, and on both sides in the same one
-pub record SameColumns (left : Grid) (input : ℕ) (right : Grid) (other : ℕ) (subtasks : List Reads) : Type 0 where
+pub record SameColumns (left : Grid) (input : ℕ) (right : Grid) (other : ℕ)
+    (subtasks : List Reads) : Type 0 where
   pub lefts : ByColumns left input subtasks
   pub rights : ByColumns right other subtasks
   pub same : All (λ subtask. (s : ℕ) → s < max left.cells right.cells
@@ -84,5 +88,6 @@ pub record IsCover (shape : Shape) (subtasks : List Reads) : Type 0 where
   pub some : 0 < length subtasks
   pub few : length subtasks < 2 ^ 32
   pub formed : All (AllZip IsInput (shape.heads ++ shape.wide)) subtasks
-  pub wide : All (λ subtask. AllZip HasWhole shape.wide (drop (length shape.heads) subtask)) subtasks
+  pub wide : All (λ subtask.
+      AllZip HasWhole shape.wide (drop (length shape.heads) subtask)) subtasks
   pub demand : Demand shape.kind shape.heads subtasks

@@ -29,7 +29,8 @@ paired matches pair lefts rights =
 
 -- what the right rows give, with their matches on the left
 abbrev pub driven_back : Match → Gives → List Row → List Row → List Row
-driven_back matches gives lefts rights = driven (λ right left. matches left right) gives rights lefts
+driven_back matches gives lefts rights =
+    driven (λ right left. matches left right) gives rights lefts
 
 -- what the left rows give with their matches, and what the right rows give with theirs
 abbrev pub both_driven : Match → Gives → Gives → List Row → List Row → List Row

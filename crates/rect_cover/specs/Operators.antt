@@ -9,11 +9,13 @@ use Rattle.plan_model.specs.declared.agg.Agg.{Agg}
 use Rattle.plan_model.specs.declared.join_kind.JoinKind.{JoinKind}
 use Rattle.plan_model.specs.declared.join_kind.JoinKind.TheVariants as kind
 use Rattle.rect_cover.specs.Heads.{Gives}
-use Rattle.rect_cover.specs.Vertices.{Head, by_key, by_left, by_right, by_pair, by_both, Link, widened}
+use Rattle.rect_cover.specs.Vertices.{Head, by_key, by_left, by_right, by_pair, by_both}
+use Rattle.rect_cover.specs.Vertices.{Link, widened}
 
 -- rows with equal keys meet
 abbrev pub aggregate_head : List ℕ → List Agg → Head
-aggregate_head keys aggs = by_key (λ a b. same_row (key_of keys a) (key_of keys b)) (aggregated keys aggs)
+aggregate_head keys aggs =
+    by_key (λ a b. same_row (key_of keys a) (key_of keys b)) (aggregated keys aggs)
 
 -- equal rows meet
 abbrev pub distinct_head : Head

@@ -36,10 +36,12 @@ input_at inputs i = slice_index_or inputs i []
 abbrev pub head_rows : Head → List (List Row) → List Row
 head_rows (by_row gives) inputs = flat_map gives (flat_map (λ rows. rows) inputs)
 head_rows (by_key meets op) inputs = op (input_at inputs 0)
-head_rows (by_left matches gives) inputs = driven matches gives (input_at inputs 0) (input_at inputs 1)
+head_rows (by_left matches gives) inputs =
+    driven matches gives (input_at inputs 0) (input_at inputs 1)
 head_rows (by_right matches gives) inputs =
     driven_back matches gives (input_at inputs 0) (input_at inputs 1)
-head_rows (by_pair matches pair) inputs = paired matches pair (input_at inputs 0) (input_at inputs 1)
+head_rows (by_pair matches pair) inputs =
+    paired matches pair (input_at inputs 0) (input_at inputs 1)
 head_rows (by_both matches gives lonely) inputs =
     both_driven matches gives lonely (input_at inputs 0) (input_at inputs 1)
 
@@ -79,7 +81,8 @@ abbrev pub LinksByBags : List Link → Type 0
 LinksByBags [] = ⊤
 LinksByBags (plain gives ∷ links) = LinksByBags links
 LinksByBags (widened step ∷ links) =
-    ((rows others : List Row) → SameBag rows others → (row : Row) → SameBag (step rows row) (step others row))
+    ((rows others : List Row) → SameBag rows others
+    → (row : Row) → SameBag (step rows row) (step others row))
     × LinksByBags links
 
 abbrev pub rest_of : List (List Row) → List (List Row)

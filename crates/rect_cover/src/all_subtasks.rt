@@ -2,7 +2,8 @@
 
 ghost use Rattle.std.specs.Prelude.{◌≡◌, ◌<◌, ◌≤◌, ◌↔◌, ℕ, IsTrue, All};
 ghost use Rattle.rect_cover.specs.Cells.{rects_of, times, times_in_all, touching as touched_by};
-ghost use Rattle.rect_cover.specs.Covers.{LiesIn, EachOnce, HeadsOnce, HasColumns, ByColumns, IsDriven};
+ghost use Rattle.rect_cover.specs.Covers.{LiesIn, EachOnce, HeadsOnce, HasColumns};
+ghost use Rattle.rect_cover.specs.Covers.{ByColumns, IsDriven};
 
 use crate::one_input::{change_after, has_columns, has_partners, times_in, touches};
 use crate::{Grid, Subtask};
@@ -37,7 +38,8 @@ pub fn change_after_in_all(
     ensures after { producer < result }
     ensures within { result ≤ end }
     ensures same { All (λ subtask. (p : ℕ) → producer ≤ p → p < result
-        → times (rects_of subtask input) p cell ≡ times (rects_of subtask input) producer cell) subtasks.now }
+        → times (rects_of subtask input) p cell ≡ times (rects_of subtask input) producer cell)
+        subtasks.now }
 {
     let mut change = end;
     for subtask in subtasks {
@@ -48,7 +50,8 @@ pub fn change_after_in_all(
 
 // Whether each cell of the column is in exactly one subtask, once.
 fn column_once(subtasks: &[Subtask], input: usize, cell: u32, producers: u32) -> bool
-    ensures { IsTrue result ↔ ((p : ℕ) → p < producers → times_in_all subtasks.now input p cell ≡ 1) }
+    ensures { IsTrue result ↔ ((p : ℕ) → p < producers
+        → times_in_all subtasks.now input p cell ≡ 1) }
 {
     let mut producer = 0;
     while producer < producers {

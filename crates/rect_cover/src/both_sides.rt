@@ -99,7 +99,8 @@ pub fn each_pair(
 
 fn touch_the_same(subtask: &Subtask, input: usize, other: usize, cells: u32) -> bool
     ensures { IsTrue result ↔ ((s : ℕ) → s < cells
-        → touches_column (rects_of subtask.now input) s ≡ touches_column (rects_of subtask.now other) s) }
+        → touches_column (rects_of subtask.now input) s
+        ≡ touches_column (rects_of subtask.now other) s) }
 {
     (0..cells).all(|cell| touches(subtask.rects(input), cell)
         == touches(subtask.rects(other), cell))

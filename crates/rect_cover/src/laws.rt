@@ -4,9 +4,12 @@ ghost use Rattle.row_core.specs.Bags.{SameBag};
 ghost use Rattle.bag_laws.specs.Rows.{OneRow, IsKeyed};
 ghost use Rattle.rect_cover.specs.declared.grid.Grid.{Grid};
 ghost use Rattle.rect_cover.specs.declared.rect.Rect.{Rect};
-ghost use Rattle.rect_cover.specs.declared.shape_kind.ShapeKind.TheVariants.{RowWise, Keyed, LeftDriven};
-ghost use Rattle.rect_cover.specs.declared.shape_kind.ShapeKind.TheVariants.{RightDriven, Inner, Full};
-ghost use Rattle.rect_cover.specs.Cells.{Reads, Input, rects_of, times, whole, reading, rows_of, read_of};
+ghost use Rattle.rect_cover.specs.declared.shape_kind.ShapeKind.TheVariants.{RowWise, Keyed};
+ghost use Rattle.rect_cover.specs.declared.shape_kind.ShapeKind.TheVariants.{LeftDriven};
+ghost use Rattle.rect_cover.specs.declared.shape_kind.ShapeKind.TheVariants.{RightDriven};
+ghost use Rattle.rect_cover.specs.declared.shape_kind.ShapeKind.TheVariants.{Inner, Full};
+ghost use Rattle.rect_cover.specs.Cells.{Reads, Input, rects_of, times};
+ghost use Rattle.rect_cover.specs.Cells.{whole, reading, rows_of, read_of};
 ghost use Rattle.rect_cover.specs.Covers.{Demand};
 ghost use Rattle.rect_cover.specs.Chains.{chained};
 ghost use Rattle.rect_cover.specs.Heads.{Match, Gives, driven, driven_back, paired, both_driven};
@@ -14,8 +17,9 @@ ghost use Rattle.rect_cover.specs.Heads.{GivesBags, MatchesInColumn, MeetsInColu
 ghost use Rattle.rect_cover.specs.Laws.{VertexLaw, SumsToWhole};
 ghost use Rattle.rect_cover.specs.Vertices.{Head, Link, head_rows, linked, GoesByBags, LinksByBags};
 
-/// For every cover, of every kind and with any wide inputs, the sum over the subtasks of what the vertex gives on
-/// what they read is what it gives on the whole, where rows that meet stand in one column.
+/// For every cover, of every kind and with any wide inputs, the sum over the subtasks of what the
+/// vertex gives on what they read is what it gives on the whole, where rows that meet stand in one
+/// column.
 pub fn vertex_law()
     ensures { VertexLaw }
 {}
@@ -65,7 +69,8 @@ pub fn inner_law()
         → SumsToWhole (paired matches pair) left right subtasks }
 {}
 
-/// A full join: what the left rows give with their matches, and what the right rows give with theirs.
+/// A full join: what the left rows give with their matches, and what the right rows give with
+/// theirs.
 pub fn full_law()
     ensures { (left right : Input) (subtasks : List Reads)
         → Demand Full (left.grid ∷ right.grid ∷ []) subtasks
@@ -74,8 +79,8 @@ pub fn full_law()
         → SumsToWhole (both_driven matches gives lonely) left right subtasks }
 {}
 
-/// Rows that stand in the column of their place, as of their key's hash modulo the number of columns, meet in one
-/// column, where rows that meet have the same place.
+/// Rows that stand in the column of their place, as of their key's hash modulo the number of
+/// columns, meet in one column, where rows that meet have the same place.
 pub fn column_law()
     ensures meets { (meets : Match) (place : OneRow → ℕ) (input : Input)
         → ((a b : OneRow) → meets a b ≡ true → place a ≡ place b)
@@ -85,8 +90,8 @@ pub fn column_law()
         → StandsAt place left → StandsAt other right → MatchesInColumn matches left right }
 {}
 
-/// What a head and a chain give goes by the bags of their inputs, and what a subtask reads goes by the bags of the
-/// cells that it reads.
+/// What a head and a chain give goes by the bags of their inputs, and what a subtask reads goes by
+/// the bags of the cells that it reads.
 pub fn vertices_go_by_bags()
     ensures heads { (head : Head) (inputs others : List (List OneRow))
         → GoesByBags head → AllZip SameBag inputs others

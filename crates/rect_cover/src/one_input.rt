@@ -23,8 +23,8 @@ pub fn touches(rects: &[Rect], cell: u32) -> bool
     rects.iter().any(|rect| rect.spans(cell))
 }
 
-// A later producer, up to the end, before which the column's cells stand in the rects as often as the
-// producer's.
+// A later producer, up to the end, before which the column's cells stand in the rects as often as
+// the producer's.
 pub fn change_after(rects: &[Rect], producer: u32, cell: u32, end: u32) -> u32
     requires { producer < end }
     ensures after { producer < result }

@@ -1,5 +1,5 @@
-//! The plan's operators as heads and links: what the law of covers asks of each. The operators' own laws stand in
-//! operator_laws.
+//! The plan's operators as heads and links: what the law of covers asks of each. The operators' own
+//! laws stand in operator_laws.
 
 ghost use Rattle.std.specs.Prelude.{◌≡◌, ◌%◌, ℕ, List, [], ◌∷◌};
 ghost use Rattle.row_core.specs.Values.{same_row};
@@ -15,8 +15,8 @@ ghost use Rattle.rect_cover.specs.Operators.{aggregate_head, distinct_head, join
 ghost use Rattle.rect_cover.specs.Operators.{left_built, right_built};
 ghost use Rattle.rect_cover.specs.Vertices.{head_rows, GoesByBags, LinksByBags};
 
-/// The heads of aggregate, of distinct and of each join give the same bag for equal bags, and those of aggregate and
-/// distinct go by equal keys.
+/// The heads of aggregate, of distinct and of each join give the same bag for equal bags, and those
+/// of aggregate and distinct go by equal keys.
 pub fn heads_go_by_bags()
     ensures aggregate { (keys : List ℕ) (aggs : List Agg) → GoesByBags (aggregate_head keys aggs) }
     ensures distinct { GoesByBags distinct_head }
@@ -32,8 +32,8 @@ pub fn joins_are_heads()
         ≡ joined keys left_width right_width left right kind }
 {}
 
-/// Where rows stand in the column of their key's hash modulo the number of columns, rows with equal keys stand in one
-/// column; any function of keys may be the hash.
+/// Where rows stand in the column of their key's hash modulo the number of columns, rows with equal
+/// keys stand in one column; any function of keys may be the hash.
 pub fn hash_columns()
     ensures aggregate { (hash : OneRow → ℕ) (keys : List ℕ) (input : Input)
         → StandsAt (λ row. hash (key_of keys row) % input.grid.cells) input
