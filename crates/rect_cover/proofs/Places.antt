@@ -1,5 +1,5 @@
 -- Rows that stand in the cells of their hashes meet in one column.
-use Rattle.std.proofs.Common.{get_or, ◌≡◌, ℕ, Bool, true, false, List, refl, sym, ◌∙◌}
+use Rattle.std.proofs.Common.{get_or, ◌≡◌, ℕ, Bool, true, false, refl, sym, ◌∙◌}
 use Rattle.bag_laws.specs.Rows.{OneRow as Row}
 use Rattle.rect_cover.specs.Cells.{Input}
 use Rattle.rect_cover.specs.Heads.{MatchesInColumn, MeetsInColumn, StandsAt}

@@ -2,7 +2,6 @@
 use Rattle.std.specs.Prelude.{ℕ, List, [], ◌∷◌, ◌++◌, map}
 use Rattle.row_core.specs.Bags.{one_of_each}
 use Rattle.row_core.specs.Values.{same_row}
-use Rattle.bag_laws.specs.Rows.{OneRow as Row}
 use Rattle.plan_model.specs.Operators.{key_of, aggregated}
 use Rattle.plan_model.specs.Joins.{matches, nulls, or_padded, if_matched, if_unmatched, joined}
 use Rattle.plan_model.specs.declared.agg.Agg.{Agg}
