@@ -7,11 +7,11 @@ use Rattle.row_core.specs.Bags.{SameBag}
 use Rattle.bag_laws.specs.Rows.{OneRow as Row}
 use Rattle.bag_laws.proofs.Laws.{total-flat_map, total-zero, SameBag-append, SameBag-filter, SameBag-map, by_weights, same_refl, same_on, same_flat_map, flat_map-split, flat_map-joined}
 use Rattle.rect_cover.specs.declared.grid.Grid.{Grid}
-use Rattle.rect_cover.specs.Cells.{Reads, rects_of, whole, reading}
+use Rattle.rect_cover.specs.Cells.{Reads, Input, rects_of, whole, reading}
 use Rattle.rect_cover.specs.Covers.{EachOnce, HasWhole, Demand, IsCover}
 use Rattle.rect_cover.specs.Heads.{driven, GivesBags}
 use Rattle.rect_cover.specs.Chains.{chained, GivesSame}
-use Rattle.rect_cover.specs.Vertices.{Input, Head, by_row, by_key, by_left, by_right, by_pair, by_both, kind_of, grids_of, shape_of, input_at, head_rows, wholes, readings, IsPlaced, GoesByBags, Link, plain, widened, rest_of, linked, LinksByBags}
+use Rattle.rect_cover.specs.Vertices.{Head, by_row, by_key, by_left, by_right, by_pair, by_both, kind_of, grids_of, shape_of, input_at, head_rows, wholes, readings, IsPlaced, GoesByBags, Link, plain, widened, rest_of, linked, LinksByBags}
 use Rattle.rect_cover.proofs.Sides.{row_wise, reads_whole, left_driven, inner_pairs}
 use Rattle.rect_cover.proofs.Columns.{keyed_columns}
 use Rattle.rect_cover.proofs.Fulls.{right_driven, full_columns}

@@ -1,5 +1,5 @@
 -- Two lists side by side, and what `all` decides over these and over a range.
-use Rattle.std.proofs.Common.{◌≡◌, ℕ, ◌≤◌, ◌<◌, Bool, true, false, IsTrue, ◌↔◌, All, List, [], ◌∷◌, ◌++◌, length, take, drop, get_or, length-append, zero-add, subst, sym, ◌∙◌, arith}
+use Rattle.std.proofs.Common.{◌≡◌, ℕ, ◌≤◌, ◌<◌, Bool, IsTrue, ◌↔◌, All, List, [], ◌∷◌, ◌++◌, length, take, drop, length-append, zero-add, subst, sym, ◌∙◌, arith}
 use Rattle.std.proofs.lemmas.Iterator.Search.{true_from_All}
 use Rattle.std.proofs.lemmas.List.Elements.{All-nil, All-cons, All-head, All-tail, All-from_all_within}
 use Rattle.std.proofs.lemmas.List.FromFn.{length-range_with_len, get_or-range_with_len}
