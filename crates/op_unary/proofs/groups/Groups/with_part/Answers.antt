@@ -2,9 +2,9 @@ use Rattle.std.proofs.Common.{◌≡◌, ◌≤◌, ◌++◌, ℕ, List, length,
 use Rattle.std.proofs.lemmas.List.{map-append}
 use Rattle.row_core.specs.Bags.{SameBag, one_of_each}
 use Rattle.bag_laws.specs.Rows.{OneRow as Row}
-use Rattle.bag_laws.proofs.Alike.{same_refl, same_sym}
-use Rattle.bag_laws.proofs.Counts.{SameBag-append}
-use Rattle.bag_laws.proofs.Permutations.{same_of_permutation}
+use Rattle.bag_laws.proofs.Laws.{same_refl, same_sym}
+use Rattle.bag_laws.proofs.Laws.{SameBag-append}
+use Rattle.bag_laws.proofs.Laws.{same_of_permutation}
 use Rattle.plan_model.specs.Operators.{key_of}
 use Rattle.plan_model.specs.declared.agg.Agg.{Agg}
 use Rattle.op_unary.specs.Groups.{AreTold, key_count}
