@@ -8,11 +8,11 @@ ghost use Rattle.job_json.specs.Members.{is_name};
 ghost use Rattle.job_json.specs.Spelling.{list_value, input_value, op_members, with_ship, node_value};
 ghost use Rattle.job_json.specs.WellFormed.{is_named, has_utf8, IsOpForm, IsNodeForm};
 
+use crate::names::write_name;
 use crate::part_writing::{
     join_kind_text, write_aggs, write_columns, write_exprs, write_numbers, write_pairs,
     write_separator,
 };
-use crate::texts::write_name;
 use expr_json::write_test;
 use plan_model::{Aggs, Exprs, JoinKind, KeyPairs, Node, Op, Schema};
 use row_core::{Bytes, Columns, NoMemory, Pred};
@@ -177,7 +177,8 @@ fn write_explode(
 }
 
 fn write_union(alloc: Global, inputs: &Columns) -> Result<Members, NoMemory>
-    ensures { IfOk result (λ members. members_view members.entries ≡ op_members Op.Union inputs.now) }
+    ensures { IfOk result
+        (λ members. members_view members.entries ≡ op_members Op.Union inputs.now) }
 {
     let mut members = Map::new(alloc);
     put(
@@ -230,7 +231,8 @@ fn write_aggregate(
 
 fn write_distinct(alloc: Global, inputs: &Columns) -> Result<Members, NoMemory>
     requires { 0 < length inputs.now }
-    ensures { IfOk result (λ members. members_view members.entries ≡ op_members Op.Distinct inputs.now) }
+    ensures { IfOk result
+        (λ members. members_view members.entries ≡ op_members Op.Distinct inputs.now) }
 {
     let mut members = Map::new(alloc);
     put(&mut members, alloc, "input", write_input(inputs, 0))?;
