@@ -22,8 +22,7 @@ with_setting settings name d = do
   within ← check (is_within settings setting value) (fault BadNumber None name)
   Ok (with_value settings setting value)
 
--- These members change these settings one after another. JSON objects have their members in byte
--- order.
+-- these members change these settings one after another
 abbrev pub settings_from : SettingValues → Members → Result SettingValues JobFault
 settings_from settings no_members = Ok settings
 settings_from settings (member name d ms) =
@@ -32,8 +31,9 @@ settings_from settings (member name d ms) =
 -- what `settings` says, if it is there
 abbrev pub settings_in : Option Data → Result SettingValues JobFault
 settings_in None = Ok default_values
-settings_in (Some value) = or_fault (fault BadMember None (codes "settings"))
-    (as_object value) >>= settings_from default_values
+settings_in (Some value) =
+    or_fault (fault BadMember None (codes "settings")) (as_object value)
+    >>= settings_from default_values
 
 -- the settings of a job
 unfoldable pub settings_of : Data → Result SettingValues JobFault

@@ -64,8 +64,9 @@ is_number d = is_some (as_number d)
 
 -- an unsigned integer of 32 bits
 abbrev pub u32_in : Data → Option ℕ
-u32_in d = option_and_then
-    (λ n. if nat_lt n (2 ^ 32) then Some n else None) (option_and_then as_u64 (as_number d))
+u32_in d =
+    option_and_then (λ n. if nat_lt n (2 ^ 32) then Some n else None)
+    (option_and_then as_u64 (as_number d))
 
 -- whether the value is this text
 abbrev pub is_text : List ℕ → Data → Bool

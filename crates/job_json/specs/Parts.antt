@@ -34,15 +34,15 @@ not_too_long node items =
 
 -- the kind of a column that a value names
 unfoldable pub kind_in : Data → Option Kind
-kind_in d = if is_text (codes "int") d then Some IntKind
-    else if is_text (codes "text") d then Some TextKind else None
+kind_in d =
+    if is_text (codes "int") d then Some IntKind else
+    if is_text (codes "text") d then Some TextKind else None
 
 -- a column: its name and its kind
 unfoldable pub column_in : Data → Option Column
-column_in d = option_and_then
-    (λ p. option_and_then
-    (λ name. option_map (λ kind. record { name = name; kind = kind }) (kind_in p.1)) (name_in p.0))
-    (two_items_in d)
+column_in d =
+    option_and_then (λ p. option_and_then (λ name. option_map (λ kind.
+    record { name = name; kind = kind }) (kind_in p.1)) (name_in p.0)) (two_items_in d)
 
 -- the columns of a source
 unfoldable pub columns_of : Option ℕ → Data → Result (List Column) JobFault
@@ -81,9 +81,9 @@ is_pair d = option_map_or (λ p. is_number p.0 && is_number p.1) (two_items_in d
 
 -- a left and a right column
 unfoldable pub pair_in : Data → Option (ℕ × ℕ)
-pair_in d = option_and_then
-    (λ p. option_and_then (λ left. option_map (λ right. (left, right)) (u32_in p.1)) (u32_in p.0))
-    (two_items_in d)
+pair_in d =
+    option_and_then (λ p. option_and_then (λ left. option_map (λ right.
+    (left, right)) (u32_in p.1)) (u32_in p.0)) (two_items_in d)
 
 -- the key columns of a join
 unfoldable pub pairs_of : Option ℕ → Data → Result (List (ℕ × ℕ)) JobFault
@@ -113,13 +113,15 @@ is_agg d = is_count d || is_column_agg d
 
 -- the aggregate of this word and this column
 unfoldable pub column_agg_in : Data → ℕ → Agg
-column_agg_in word column = if is_text (codes "sum") word then Sum column
-    else if is_text (codes "min") word then Min column else Max column
+column_agg_in word column =
+    if is_text (codes "sum") word then Sum column else
+    if is_text (codes "min") word then Min column else Max column
 
 -- the aggregate that a value is
 unfoldable pub agg_in : Data → Option Agg
-agg_in d = if is_count d then Some Count
-    else option_and_then (λ p. option_map (column_agg_in p.0) (u32_in p.1)) (two_items_in d)
+agg_in d =
+    if is_count d then Some Count else
+    option_and_then (λ p. option_map (column_agg_in p.0) (u32_in p.1)) (two_items_in d)
 
 -- the aggregates of an aggregate node
 unfoldable pub aggs_of : Option ℕ → Data → Result (List Agg) JobFault
@@ -166,8 +168,9 @@ exprs_of node d = do
 
 -- a text of one ASCII character
 abbrev pub ascii_in : List ℕ → Option ℕ
-ascii_in text = if (length text == 1)
-    && nat_lt (slice_index text 0) 128 then Some (slice_index text 0) else None
+ascii_in text =
+    if (length text == 1) && nat_lt (slice_index text 0) 128
+    then Some (slice_index text 0) else None
 
 -- the separator of an explode node
 unfoldable pub separator_of : Option ℕ → Data → Result ℕ JobFault
@@ -193,8 +196,9 @@ join_kind_of node d = do
 
 -- whether the rows are spread anew
 abbrev pub rebalance_in : Data → Option Bool
-rebalance_in d = if is_text (codes "forward") d then Some false
-    else if is_text (codes "rebalance") d then Some true else None
+rebalance_in d =
+    if is_text (codes "forward") d then Some false else
+    if is_text (codes "rebalance") d then Some true else None
 
 -- what `ship` says, if it is there
 abbrev pub shipped : Option ℕ → Option Data → Result Bool JobFault
