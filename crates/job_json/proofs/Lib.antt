@@ -1,10 +1,10 @@
-pub mod NameBytes
-pub mod NodesRead
-pub mod ParsedTexts
-pub mod PlainValues
-pub mod RoundTrip
-pub mod Shapes
-pub mod SpelledNodes
-pub mod SpelledParts
-pub mod Tools
-pub mod WellRead
+mod NameBytes
+mod NodesRead
+mod ParsedTexts
+mod PlainValues
+mod RoundTrip
+mod Shapes
+mod SpelledNodes
+mod SpelledParts
+mod Tools
+mod WellRead

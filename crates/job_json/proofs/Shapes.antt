@@ -1,6 +1,6 @@
 -- The items of a list, as a list of values.
-use Rattle.std.proofs.Common.{◌≡◌, ◌<◌, ◌≤◌, List, [], ◌∷◌, ◌++◌, length, map, Bool, true, false, ◌&&◌, IsTrue, Option, None, option_map, Result, Ok, Err, refl, ap, arith}
-use Rattle.std.specs.List.{list_all}
+use Rattle.std.proofs.Common.{◌≡◌, ◌<◌, ◌≤◌, List, [], ◌∷◌, ◌++◌, length, map, Bool, true, false, ◌&&◌, ◌||◌, IsTrue, Option, None, option_map, Result, Ok, Err, refl, ap, arith}
+use Rattle.std.specs.List.{list_all, list_any}
 use Rattle.serde_json.specs.View.{view, items_view}
 use Rattle.serde_json.specs.declared.value.Value.{Value}
 use Rattle.plan_model.specs.declared.node.Node.{Node}
@@ -30,6 +30,11 @@ two_of_long [] h = refl
 two_of_long (v ∷ []) h = refl
 two_of_long (v ∷ w ∷ []) h = absurd (omega arith)
 two_of_long (v ∷ w ∷ x ∷ vs) h = refl
+
+-- whether an item passes, seen as a value
+pub list_any-map : {X Y : Type 0} (p : Y → Bool) (f : X → Y) (xs : List X) → list_any p (map f xs) ≡ list_any (λ x. p (f x)) xs
+list_any-map p f [] = refl
+list_any-map p f (x ∷ xs) = ap (λ (rest : Bool). p (f x) || rest) (list_any-map p f xs)
 
 -- what was read before, and then what is read
 abbrev pub with_front : {B : Type 0} → List B → Option (List B) → Option (List B)

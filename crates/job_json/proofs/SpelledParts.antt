@@ -19,9 +19,7 @@ use Rattle.expr_json.specs.Depths.{list_depth, expr_depth, test_depth}
 use Rattle.expr_json.specs.Ranges.{in_range, test_in_range}
 use Rattle.expr_json.specs.Reading.{expr_of}
 use Rattle.expr_json.specs.Spelling.{expr_value, test_value}
-use Rattle.expr_json.proofs.Laws.{expr_gives}
-use Rattle.expr_json.proofs.Laws.{test_gives}
-use Rattle.expr_json.proofs.Laws.{lists-expr, lists-test, good-expr, good-test}
+use Rattle.expr_json.proofs.Laws.{expr_gives, test_gives, lists-expr, lists-test, good-expr, good-test}
 use Rattle.job_json.specs.Members.{is_name, is_number, u32_in, name_in, items_list, one_item_in, two_items_in, each, name_of, number_of, list_of}
 use Rattle.job_json.specs.Parts.{not_too_long, kind_in, column_in, columns_of, keys_of, inputs_of, pair_in, is_pair, pairs_of, agg_in, column_agg_in, is_agg, aggs_of, told_depth, too_deep_among, where_of, exprs_of, separator_of, join_kind_named, join_kind_of, ship_of}
 use Rattle.job_json.specs.Spelling.{list_value, number_value, kind_word, column_value, pair_value, agg_value, join_kind_word}

@@ -16,9 +16,7 @@ use Rattle.expr_json.specs.BadNumbers.{bad_number_in}
 use Rattle.expr_json.specs.Depths.{list_depth, expr_depth, test_depth}
 use Rattle.expr_json.specs.Ranges.{in_range, test_in_range}
 use Rattle.expr_json.specs.Reading.{expr_of, test_of}
-use Rattle.expr_json.proofs.Laws.{expr_takes}
-use Rattle.expr_json.proofs.Laws.{test_takes}
-use Rattle.expr_json.proofs.Laws.{lists-expr, lists-test}
+use Rattle.expr_json.proofs.Laws.{expr_takes, test_takes, lists-expr, lists-test}
 use Rattle.job_json.specs.Faults.{or_fault, check}
 use Rattle.job_json.specs.Members.{is_name, is_number, u32_in, name_in, two_items_in, each, member_of, name_of, number_of, list_of}
 use Rattle.job_json.specs.Parts.{not_too_long, kind_in, column_in, columns_of, keys_of, inputs_of, pair_in, is_pair, pairs_of, is_count, agg_in, column_agg_in, is_agg, aggs_of, told_depth, too_deep_among, not_deep, where_of, exprs_of, ascii_in, separator_of}

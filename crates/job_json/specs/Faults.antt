@@ -42,7 +42,7 @@ abbrev pub TellsFault : JobError → JobFault → Type 0
 TellsFault (Fault f) told = f ≡ told
 TellsFault NoMemory told = ⊤
 
--- What a function returned, seen by `seen`, is what is to be read, or the first fault, unless memory ran out.
+-- what a function returned, seen by `seen`, is the value or the first fault, unless memory ran out
 abbrev pub Gives : {A B : Type 0} → (A → B) → Result A JobError → Result B JobFault → Type 0
 Gives seen (Ok x) reading = reading ≡ Ok (seen x)
 Gives seen (Err e) reading = Tells e reading

@@ -4,6 +4,7 @@ use Rattle.serde_json.specs.Data.{Data, Members, no_members, member}
 use Rattle.serde_json.specs.Find.{get, as_number, as_object, as_u64}
 use Rattle.plan_model.specs.Settings.{setting_named, is_within, with_value, default_values}
 use Rattle.plan_model.specs.declared.setting_values.SettingValues.{SettingValues}
+use Rattle.job_json.specs.declared.reading.TheConstants.{NODE_LIMIT}
 use Rattle.job_json.specs.Faults.{◌>>=◌, or_fault, check, fault, not_json}
 use Rattle.job_json.specs.Members.{name_of, list_of, known_alone}
 use Rattle.job_json.specs.Nodes.{nodes_from}
@@ -21,15 +22,18 @@ with_setting settings name d = do
   within ← check (is_within settings setting value) (fault BadNumber None name)
   Ok (with_value settings setting value)
 
--- These members change these settings one after another. JSON objects have their members in byte order.
+-- these members change these settings one after another
 abbrev pub settings_from : SettingValues → Members → Result SettingValues JobFault
 settings_from settings no_members = Ok settings
-settings_from settings (member name d ms) = with_setting settings name d >>= λ changed. settings_from changed ms
+settings_from settings (member name d ms) =
+    with_setting settings name d >>= λ changed. settings_from changed ms
 
 -- what `settings` says, if it is there
 abbrev pub settings_in : Option Data → Result SettingValues JobFault
 settings_in None = Ok default_values
-settings_in (Some value) = or_fault (fault BadMember None (codes "settings")) (as_object value) >>= settings_from default_values
+settings_in (Some value) =
+    or_fault (fault BadMember None (codes "settings")) (as_object value)
+    >>= settings_from default_values
 
 -- the settings of a job
 unfoldable pub settings_of : Data → Result SettingValues JobFault
@@ -43,6 +47,7 @@ job_of d = do
   items ← list_of None (codes "nodes") d
   settings ← settings_of d
   known ← known_alone None Top members
-  few ← check (nat_le (length items) 256) (fault (TooMany (length items)) None (codes "nodes"))
+  few ← check (nat_le (length items) NODE_LIMIT)
+      (fault (TooMany (length items)) None (codes "nodes"))
   nodes ← nodes_from 0 items
   Ok (record { name = name; plan = nodes; settings = settings })

@@ -1,9 +1,10 @@
 -- The members of objects, by their names.
 use Rattle.std.specs.Prelude.{ℕ, ◌^◌, nat_lt, nat_le, ◌==◌, Bool, false, ◌&&◌, ◌||◌, List, [], ◌∷◌, length, codes, Option, Some, None, option_map, option_and_then, is_some, if◌then◌else◌, Result, Ok, Err, ⊤}
-use Rattle.std.specs.List.{list_all}
+use Rattle.std.specs.List.{list_all, list_any}
 use Rattle.std.specs.Str.{bytes_eq}
 use Rattle.serde_json.specs.Data.{Data, string, Items, no_items, item, Members, no_members, member}
 use Rattle.serde_json.specs.Find.{get, as_str, as_number, as_array, as_u64}
+use Rattle.job_json.specs.declared.names.TheConstants.{NAME_LIMIT}
 use Rattle.job_json.specs.Faults.{◌>>=◌, or_fault, check, fault}
 use Rattle.job_json.specs.declared.job_fault.JobFault.{JobFault}
 use Rattle.job_json.specs.declared.job_fault_kind.JobFaultKind.TheVariants.{MissingMember, BadMember, BadNumber, UnknownMember}
@@ -20,7 +21,8 @@ is_name_byte b = (nat_le 97 b && nat_le b 122) || (nat_le 48 b && nat_le b 57) |
 
 -- a name has 1 to 64 of these bytes
 abbrev pub is_name : List ℕ → Bool
-is_name name = nat_le 1 (length name) && nat_le (length name) 64 && list_all is_name_byte name
+is_name name =
+    nat_le 1 (length name) && nat_le (length name) NAME_LIMIT && list_all is_name_byte name
 
 -- ---- JSON values
 
@@ -62,7 +64,9 @@ is_number d = is_some (as_number d)
 
 -- an unsigned integer of 32 bits
 abbrev pub u32_in : Data → Option ℕ
-u32_in d = option_and_then (λ n. if nat_lt n (2 ^ 32) then Some n else None) (option_and_then as_u64 (as_number d))
+u32_in d =
+    option_and_then (λ n. if nat_lt n (2 ^ 32) then Some n else None)
+    (option_and_then as_u64 (as_number d))
 
 -- whether the value is this text
 abbrev pub is_text : List ℕ → Data → Bool
@@ -100,23 +104,30 @@ list_of node name d = do
 
 -- ---- unknown members
 
--- whether an object has a meaning for this member
+-- the members that an object may have
+abbrev pub members_of : Object → List (List ℕ)
+members_of Top = codes "job" ∷ codes "nodes" ∷ codes "settings" ∷ []
+members_of (Node Source) = codes "op" ∷ codes "table" ∷ codes "columns" ∷ []
+members_of (Node Filter) = codes "op" ∷ codes "input" ∷ codes "where" ∷ codes "ship" ∷ []
+members_of (Node Project) = codes "op" ∷ codes "input" ∷ codes "exprs" ∷ codes "ship" ∷ []
+members_of (Node Explode) =
+    codes "op" ∷ codes "input" ∷ codes "column" ∷ codes "separator" ∷ codes "ship" ∷ []
+members_of (Node Union) = codes "op" ∷ codes "inputs" ∷ []
+members_of (Node Aggregate) = codes "op" ∷ codes "input" ∷ codes "keys" ∷ codes "aggs" ∷ []
+members_of (Node Distinct) = codes "op" ∷ codes "input" ∷ []
+members_of (Node Join) =
+    codes "op" ∷ codes "kind" ∷ codes "left" ∷ codes "right" ∷ codes "keys" ∷ []
+members_of (Node Sink) = codes "op" ∷ codes "input" ∷ codes "name" ∷ codes "ship" ∷ []
+
+-- whether an object may have this member
 abbrev pub is_member_of : Object → List ℕ → Bool
-is_member_of Top name = bytes_eq name (codes "job") || bytes_eq name (codes "nodes") || bytes_eq name (codes "settings")
-is_member_of (Node Source) name = bytes_eq name (codes "op") || bytes_eq name (codes "table") || bytes_eq name (codes "columns")
-is_member_of (Node Filter) name = bytes_eq name (codes "op") || bytes_eq name (codes "input") || bytes_eq name (codes "where") || bytes_eq name (codes "ship")
-is_member_of (Node Project) name = bytes_eq name (codes "op") || bytes_eq name (codes "input") || bytes_eq name (codes "exprs") || bytes_eq name (codes "ship")
-is_member_of (Node Explode) name = bytes_eq name (codes "op") || bytes_eq name (codes "input") || bytes_eq name (codes "column") || bytes_eq name (codes "separator") || bytes_eq name (codes "ship")
-is_member_of (Node Union) name = bytes_eq name (codes "op") || bytes_eq name (codes "inputs")
-is_member_of (Node Aggregate) name = bytes_eq name (codes "op") || bytes_eq name (codes "input") || bytes_eq name (codes "keys") || bytes_eq name (codes "aggs")
-is_member_of (Node Distinct) name = bytes_eq name (codes "op") || bytes_eq name (codes "input")
-is_member_of (Node Join) name = bytes_eq name (codes "op") || bytes_eq name (codes "kind") || bytes_eq name (codes "left") || bytes_eq name (codes "right") || bytes_eq name (codes "keys")
-is_member_of (Node Sink) name = bytes_eq name (codes "op") || bytes_eq name (codes "input") || bytes_eq name (codes "name") || bytes_eq name (codes "ship")
+is_member_of whose name = list_any (bytes_eq name) (members_of whose)
 
 -- the first member, in byte order, that has no meaning
 abbrev pub unknown_among : Object → Members → Option (List ℕ)
 unknown_among whose no_members = None
-unknown_among whose (member name d ms) = if is_member_of whose name then unknown_among whose ms else Some name
+unknown_among whose (member name d ms) =
+    if is_member_of whose name then unknown_among whose ms else Some name
 
 -- no fault, unless a member is unknown
 abbrev pub none_unknown : Option ℕ → Option (List ℕ) → Result ⊤ JobFault

@@ -17,6 +17,9 @@ use Rattle.plan_model.specs.declared.kind.Kind.TheVariants.{IntKind, TextKind}
 use Rattle.expr_json.specs.BadNumbers.{bad_number_in}
 use Rattle.expr_json.specs.Depths.{list_depth}
 use Rattle.expr_json.specs.Reading.{expr_of, test_of}
+use Rattle.job_json.specs.declared.node_reader.TheConstants.{LIST_LIMIT}
+use Rattle.job_json.specs.declared.numbers.TheConstants.{LEAST_INPUTS, INPUT_LIMIT}
+use Rattle.job_json.specs.declared.exprs.TheConstants.{DEPTH_LIMIT}
 use Rattle.job_json.specs.Faults.{◌>>=◌, or_fault, check, fault}
 use Rattle.job_json.specs.Members.{name_in, is_number, u32_in, is_text, one_item_in, two_items_in, each, member_of, list_of}
 use Rattle.job_json.specs.declared.job_fault.JobFault.{JobFault}
@@ -24,17 +27,22 @@ use Rattle.job_json.specs.declared.job_fault_kind.JobFaultKind.TheVariants.{BadM
 
 -- a list of a node has at most 256 items
 abbrev pub not_too_long : Option ℕ → List Data → Result ⊤ JobFault
-not_too_long node items = check (nat_le (length items) 256) (fault (TooMany (length items)) node (codes "list"))
+not_too_long node items =
+    check (nat_le (length items) LIST_LIMIT) (fault (TooMany (length items)) node (codes "list"))
 
 -- ---- columns
 
 -- the kind of a column that a value names
 unfoldable pub kind_in : Data → Option Kind
-kind_in d = if is_text (codes "int") d then Some IntKind else if is_text (codes "text") d then Some TextKind else None
+kind_in d =
+    if is_text (codes "int") d then Some IntKind else
+    if is_text (codes "text") d then Some TextKind else None
 
 -- a column: its name and its kind
 unfoldable pub column_in : Data → Option Column
-column_in d = option_and_then (λ p. option_and_then (λ name. option_map (λ kind. record { name = name; kind = kind }) (kind_in p.1)) (name_in p.0)) (two_items_in d)
+column_in d =
+    option_and_then (λ p. option_and_then (λ name. option_map (λ kind.
+    record { name = name; kind = kind }) (kind_in p.1)) (name_in p.0)) (two_items_in d)
 
 -- the columns of a source
 unfoldable pub columns_of : Option ℕ → Data → Result (List Column) JobFault
@@ -59,8 +67,10 @@ keys_of node d = do
 unfoldable pub inputs_of : Option ℕ → Data → Result (List ℕ) JobFault
 inputs_of node d = do
   items ← list_of node (codes "inputs") d
-  numbers ← check (nat_le 2 (length items) && list_all is_number items) (fault BadMember node (codes "inputs"))
-  few ← check (nat_le (length items) 64) (fault (TooMany (length items)) node (codes "inputs"))
+  numbers ← check (nat_le LEAST_INPUTS (length items) && list_all is_number items)
+      (fault BadMember node (codes "inputs"))
+  few ← check (nat_le (length items) INPUT_LIMIT)
+      (fault (TooMany (length items)) node (codes "inputs"))
   or_fault (fault BadNumber node (codes "inputs")) (each u32_in items)
 
 -- ---- pairs of columns
@@ -71,7 +81,9 @@ is_pair d = option_map_or (λ p. is_number p.0 && is_number p.1) (two_items_in d
 
 -- a left and a right column
 unfoldable pub pair_in : Data → Option (ℕ × ℕ)
-pair_in d = option_and_then (λ p. option_and_then (λ left. option_map (λ right. (left, right)) (u32_in p.1)) (u32_in p.0)) (two_items_in d)
+pair_in d =
+    option_and_then (λ p. option_and_then (λ left. option_map (λ right.
+    (left, right)) (u32_in p.1)) (u32_in p.0)) (two_items_in d)
 
 -- the key columns of a join
 unfoldable pub pairs_of : Option ℕ → Data → Result (List (ℕ × ℕ)) JobFault
@@ -101,11 +113,15 @@ is_agg d = is_count d || is_column_agg d
 
 -- the aggregate of this word and this column
 unfoldable pub column_agg_in : Data → ℕ → Agg
-column_agg_in word column = if is_text (codes "sum") word then Sum column else if is_text (codes "min") word then Min column else Max column
+column_agg_in word column =
+    if is_text (codes "sum") word then Sum column else
+    if is_text (codes "min") word then Min column else Max column
 
 -- the aggregate that a value is
 unfoldable pub agg_in : Data → Option Agg
-agg_in d = if is_count d then Some Count else option_and_then (λ p. option_map (column_agg_in p.0) (u32_in p.1)) (two_items_in d)
+agg_in d =
+    if is_count d then Some Count else
+    option_and_then (λ p. option_map (column_agg_in p.0) (u32_in p.1)) (two_items_in d)
 
 -- the aggregates of an aggregate node
 unfoldable pub aggs_of : Option ℕ → Data → Result (List Agg) JobFault
@@ -123,7 +139,7 @@ told_depth value = min (list_depth value) (2 ^ 64 - 1)
 
 -- the depth of the first of these that is too deep
 abbrev pub too_deep_among : List Data → Option ℕ
-too_deep_among values = find (λ depth. nat_lt 32 depth) (map told_depth values)
+too_deep_among values = find (λ depth. nat_lt DEPTH_LIMIT depth) (map told_depth values)
 
 -- no fault, unless something is too deep
 abbrev pub not_deep : Option ℕ → Option ℕ → Result ⊤ JobFault
@@ -152,7 +168,9 @@ exprs_of node d = do
 
 -- a text of one ASCII character
 abbrev pub ascii_in : List ℕ → Option ℕ
-ascii_in text = if (length text == 1) && nat_lt (slice_index text 0) 128 then Some (slice_index text 0) else None
+ascii_in text =
+    if (length text == 1) && nat_lt (slice_index text 0) 128
+    then Some (slice_index text 0) else None
 
 -- the separator of an explode node
 unfoldable pub separator_of : Option ℕ → Data → Result ℕ JobFault
@@ -178,7 +196,9 @@ join_kind_of node d = do
 
 -- whether the rows are spread anew
 abbrev pub rebalance_in : Data → Option Bool
-rebalance_in d = if is_text (codes "forward") d then Some false else if is_text (codes "rebalance") d then Some true else None
+rebalance_in d =
+    if is_text (codes "forward") d then Some false else
+    if is_text (codes "rebalance") d then Some true else None
 
 -- what `ship` says, if it is there
 abbrev pub shipped : Option ℕ → Option Data → Result Bool JobFault

@@ -82,26 +82,52 @@ input_value inputs place = number_value (get_or inputs place 0)
 -- the members of a node but `ship`
 abbrev pub op_members : Op → List ℕ → Members
 op_members (Source table columns) inputs = members_from (
-    (codes "columns", list_value (map column_value columns)) ∷ (codes "op", string (codes "source")) ∷ (codes "table", string table) ∷ [])
+    (codes "columns", list_value (map column_value columns))
+    ∷ (codes "op", string (codes "source"))
+    ∷ (codes "table", string table)
+    ∷ [])
 op_members (Filter test) inputs = members_from (
-    (codes "input", input_value inputs 0) ∷ (codes "op", string (codes "filter")) ∷ (codes "where", test_value test) ∷ [])
+    (codes "input", input_value inputs 0)
+    ∷ (codes "op", string (codes "filter"))
+    ∷ (codes "where", test_value test)
+    ∷ [])
 op_members (Project exprs) inputs = members_from (
-    (codes "exprs", list_value (map expr_value exprs)) ∷ (codes "input", input_value inputs 0) ∷ (codes "op", string (codes "project")) ∷ [])
+    (codes "exprs", list_value (map expr_value exprs))
+    ∷ (codes "input", input_value inputs 0)
+    ∷ (codes "op", string (codes "project"))
+    ∷ [])
 op_members (Explode column separator) inputs = members_from (
-    (codes "column", number_value column) ∷ (codes "input", input_value inputs 0) ∷ (codes "op", string (codes "explode"))
-    ∷ (codes "separator", string (separator ∷ [])) ∷ [])
+    (codes "column", number_value column)
+    ∷ (codes "input", input_value inputs 0)
+    ∷ (codes "op", string (codes "explode"))
+    ∷ (codes "separator", string (separator ∷ []))
+    ∷ [])
 op_members Union inputs = members_from (
-    (codes "inputs", list_value (map number_value inputs)) ∷ (codes "op", string (codes "union")) ∷ [])
+    (codes "inputs", list_value (map number_value inputs))
+    ∷ (codes "op", string (codes "union"))
+    ∷ [])
 op_members (Aggregate keys aggs) inputs = members_from (
-    (codes "aggs", list_value (map agg_value aggs)) ∷ (codes "input", input_value inputs 0) ∷ (codes "keys", list_value (map number_value keys))
-    ∷ (codes "op", string (codes "aggregate")) ∷ [])
+    (codes "aggs", list_value (map agg_value aggs))
+    ∷ (codes "input", input_value inputs 0)
+    ∷ (codes "keys", list_value (map number_value keys))
+    ∷ (codes "op", string (codes "aggregate"))
+    ∷ [])
 op_members Distinct inputs = members_from (
-    (codes "input", input_value inputs 0) ∷ (codes "op", string (codes "distinct")) ∷ [])
+    (codes "input", input_value inputs 0)
+    ∷ (codes "op", string (codes "distinct"))
+    ∷ [])
 op_members (Join kind keys) inputs = members_from (
-    (codes "keys", list_value (map pair_value keys)) ∷ (codes "kind", string (join_kind_word kind)) ∷ (codes "left", input_value inputs 0)
-    ∷ (codes "op", string (codes "join")) ∷ (codes "right", input_value inputs 1) ∷ [])
+    (codes "keys", list_value (map pair_value keys))
+    ∷ (codes "kind", string (join_kind_word kind))
+    ∷ (codes "left", input_value inputs 0)
+    ∷ (codes "op", string (codes "join"))
+    ∷ (codes "right", input_value inputs 1)
+    ∷ [])
 op_members (Sink name) inputs = members_from (
-    (codes "input", input_value inputs 0) ∷ (codes "name", string name) ∷ (codes "op", string (codes "sink")) ∷ [])
+    (codes "input", input_value inputs 0)
+    ∷ (codes "name", string name)
+    ∷ (codes "op", string (codes "sink"))
+    ∷ [])
 
 -- `ship`, at its place among the members, where rows are spread anew
 abbrev pub with_ship : Bool → Members → Members

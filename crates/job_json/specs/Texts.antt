@@ -1,9 +1,11 @@
--- The text of a job: which job a text is, or its first fault, and the text that a job is printed as.
+-- The text of a job: which job a text is, or its first fault, and the text that a job is printed
+-- as.
 use Rattle.std.specs.Prelude.{ℕ, ◌≤◌, nat_le, Bool, List, length, codes, Option, None, if◌then◌else◌, Result, Ok, ⊤}
 use Rattle.std.specs.Str.{is_utf8}
 use Rattle.serde_json.specs.Data.{Data}
 use Rattle.serde_json.specs.Read.{read}
 use Rattle.serde_json.specs.Written.{compact_text}
+use Rattle.job_json.specs.declared.reading.TheConstants.{TEXT_LIMIT}
 use Rattle.job_json.specs.Faults.{◌>>=◌, or_fault, check, fault, not_json}
 use Rattle.job_json.specs.Jobs.{job_of}
 use Rattle.job_json.specs.Spelling.{job_value}
@@ -16,9 +18,9 @@ use Rattle.job_json.specs.declared.job_fault_kind.JobFaultKind.TheVariants.{TooM
 abbrev pub printed_text : Job → List ℕ
 printed_text job = compact_text (job_value job)
 
--- a quantity is at most 1,048,576 bytes
+-- a quantity is within the limit
 abbrev pub not_too_large : List ℕ → ℕ → Result ⊤ JobFault
-not_too_large name bytes = check (nat_le bytes 1048576) (fault (TooMany bytes) None name)
+not_too_large name bytes = check (nat_le bytes TEXT_LIMIT) (fault (TooMany bytes) None name)
 
 -- a value, if its text is UTF-8
 abbrev pub text_if : Bool → Option Data → Option Data
@@ -43,4 +45,4 @@ job_in text = do
 -- a job that some text spells, and whose printed text is not too large
 pub record IsWellFormed (job : Job) : Type 0 where
   pub form : IsJobForm job
-  pub printed : length (printed_text job) ≤ 1048576
+  pub printed : length (printed_text job) ≤ TEXT_LIMIT

@@ -12,6 +12,10 @@ use Rattle.plan_model.specs.declared.op.Op.{Op}
 use Rattle.plan_model.specs.declared.op.Op.TheVariants.{Source, Filter, Project, Explode, Union, Aggregate, Distinct, Join, Sink}
 use Rattle.expr_json.specs.Depths.{expr_depth, test_depth}
 use Rattle.expr_json.specs.Ranges.{in_range, test_in_range, has_utf8_texts, test_has_utf8_texts}
+use Rattle.job_json.specs.declared.node_reader.TheConstants.{LIST_LIMIT}
+use Rattle.job_json.specs.declared.numbers.TheConstants.{LEAST_INPUTS, INPUT_LIMIT}
+use Rattle.job_json.specs.declared.exprs.TheConstants.{DEPTH_LIMIT}
+use Rattle.job_json.specs.declared.reading.TheConstants.{NODE_LIMIT}
 use Rattle.job_json.specs.Members.{is_name}
 use Rattle.job_json.specs.declared.job.Job.{Job}
 
@@ -38,15 +42,15 @@ is_named column = is_name column.name
 
 -- numbers in their ranges, and lists that stand at most 32 deep one within another
 abbrev pub is_shallow_expr : Expr → Bool
-is_shallow_expr expr = in_range expr && nat_le (expr_depth expr) 32
+is_shallow_expr expr = in_range expr && nat_le (expr_depth expr) DEPTH_LIMIT
 
 -- the same of a test
 abbrev pub is_shallow_test : Pred → Bool
-is_shallow_test test = test_in_range test && nat_le (test_depth test) 32
+is_shallow_test test = test_in_range test && nat_le (test_depth test) DEPTH_LIMIT
 
 -- at most 256 items, each of which passes a test
 pub record IsShort {A : Type 0} (passes : A → Bool) (items : List A) : Type 0 where
-  pub most : length items ≤ 256
+  pub most : length items ≤ LIST_LIMIT
   pub each : IsTrue (list_all passes items)
 
 -- the texts within an operator's expressions are UTF-8
@@ -73,12 +77,17 @@ HasTwoInputs _ = ⊥
 
 -- names, ranges and sizes of an operator and its inputs
 abbrev pub IsOpForm : Op → List ℕ → Type 0
-IsOpForm (Source table columns) inputs = IsTrue (is_name table) × (0 < length columns) × IsShort is_named columns × (inputs ≡ [])
+IsOpForm (Source table columns) inputs =
+    IsTrue (is_name table) × (0 < length columns) × IsShort is_named columns × (inputs ≡ [])
 IsOpForm (Filter test) inputs = IsTrue (is_shallow_test test) × HasOneInput inputs
-IsOpForm (Project exprs) inputs = (0 < length exprs) × IsShort is_shallow_expr exprs × HasOneInput inputs
-IsOpForm (Explode column separator) inputs = IsTrue (is_u32 column) × (separator < 128) × HasOneInput inputs
-IsOpForm Union inputs = (2 ≤ length inputs) × (length inputs ≤ 64) × IsTrue (list_all is_u32 inputs)
-IsOpForm (Aggregate keys aggs) inputs = IsShort is_u32 keys × IsShort is_u32_agg aggs × HasOneInput inputs
+IsOpForm (Project exprs) inputs =
+    (0 < length exprs) × IsShort is_shallow_expr exprs × HasOneInput inputs
+IsOpForm (Explode column separator) inputs =
+    IsTrue (is_u32 column) × (separator < 128) × HasOneInput inputs
+IsOpForm Union inputs =
+    (LEAST_INPUTS ≤ length inputs) × (length inputs ≤ INPUT_LIMIT) × IsTrue (list_all is_u32 inputs)
+IsOpForm (Aggregate keys aggs) inputs =
+    IsShort is_u32 keys × IsShort is_u32_agg aggs × HasOneInput inputs
 IsOpForm Distinct inputs = HasOneInput inputs
 IsOpForm (Join kind keys) inputs = IsShort is_u32_pair keys × HasTwoInputs inputs
 IsOpForm (Sink name) inputs = IsTrue (is_name name) × HasOneInput inputs
@@ -102,6 +111,6 @@ pub record IsNodeForm (node : Node) : Type 0 where
 -- a job that some JSON value spells
 pub record IsJobForm (job : Job) : Type 0 where
   pub name : IsTrue (is_name job.name)
-  pub most : length job.plan ≤ 256
+  pub most : length job.plan ≤ NODE_LIMIT
   pub nodes : All IsNodeForm job.plan
   pub settings : AreInRange job.settings

@@ -7,40 +7,33 @@ ghost use Rattle.job_json.specs.Members.{each};
 ghost use Rattle.job_json.specs.Parts.{is_count, is_column_word, is_column_agg, is_agg, column_agg_in, agg_in, aggs_of};
 
 use crate::json_shape::{has_number, matches_text, number_u32, one_item, two_items};
-use crate::place::Place;
+use crate::node_reader::NodeReader;
 use crate::{JobError, JobFaultKind};
 use plan_model::{Agg, Aggs};
 use row_core::NoMemory;
 use serde_json::Value;
 use std::alloc::Global;
 
-impl Place {
-    /// The aggregates of a node.
-    #[tactic(auto, unfolding(crate::specs::Parts::aggs_of))]
-    pub fn aggs(self, node: &Value) -> Result<Aggs, JobError>
-        ensures { Gives (λ x. x) result (aggs_of self.node (view node.now)) }
-    {
-        let items = self.list(node, "aggs")?;
-        if !has_aggs(items) {
-            return Err(self.fault(JobFaultKind::BadMember, "aggs"));
-        }
-        self.check_length(items)?;
-        match read_aggs(self.alloc, items)? {
-            Some(aggs) => Ok(Aggs::from_vec(aggs)),
-            None => Err(self.fault(JobFaultKind::BadNumber, "aggs")),
-        }
+/// The aggregates of a node.
+#[tactic(auto, unfolding(crate::specs::Parts::aggs_of))]
+pub fn read_aggs(reader: NodeReader, node: &Value) -> Result<Aggs, JobError>
+    ensures { Gives (λ x. x) result (aggs_of reader.node (view node.now)) }
+{
+    let items = reader.list(node, "aggs")?;
+    if !has_aggs(items) {
+        return Err(reader.fault(JobFaultKind::BadMember, "aggs"));
+    }
+    reader.check_length(items)?;
+    match aggs_from(reader.alloc, items)? {
+        Some(aggs) => Ok(Aggs::from_vec(aggs)),
+        None => Err(reader.fault(JobFaultKind::BadNumber, "aggs")),
     }
 }
 
 fn has_aggs(items: &[Value]) -> bool
     ensures { result ≡ list_all is_agg (map view items.now) }
 {
-    for item in items {
-        if !matches_agg(item) {
-            return false;
-        }
-    }
-    true
+    items.iter().all(|item| matches_agg(item))
 }
 
 #[tactic(auto, unfolding(crate::specs::Parts::is_agg))]
@@ -74,8 +67,9 @@ fn matches_column_word(word: &Value) -> bool
     matches_text(word, "sum") || matches_text(word, "min") || matches_text(word, "max")
 }
 
-fn read_aggs(alloc: Global, items: &[Value]) -> Result<Option<Vec<Agg>>, NoMemory>
-    ensures { IfOk result (λ r. option_map (λ aggs. aggs.items) r ≡ each agg_in (map view items.now)) }
+fn aggs_from(alloc: Global, items: &[Value]) -> Result<Option<Vec<Agg>>, NoMemory>
+    ensures { IfOk result
+        (λ r. option_map (λ aggs. aggs.items) r ≡ each agg_in (map view items.now)) }
 {
     let mut aggs = Vec::new(alloc);
     for item in items {

@@ -3,48 +3,34 @@ ghost use Rattle.std.specs.Prelude.{◌≡◌, map, option_map, IfOk};
 ghost use Rattle.serde_json.specs.View.{view};
 ghost use Rattle.job_json.specs.Faults.{Gives};
 ghost use Rattle.job_json.specs.Members.{each};
-ghost use Rattle.job_json.specs.Parts.{kind_in, column_in, columns_of, not_too_long};
+ghost use Rattle.job_json.specs.Parts.{kind_in, column_in, columns_of};
 
 use crate::json_shape::{matches_text, two_items};
 use crate::names::read_name;
-use crate::place::Place;
+use crate::node_reader::NodeReader;
 use crate::{JobError, JobFaultKind};
 use plan_model::{Column, Kind, Schema};
 use row_core::NoMemory;
 use serde_json::Value;
 use std::alloc::Global;
 
-const LIST_LIMIT: usize = 256;
-
-impl Place {
-    /// Refuses a list of a node that has too many items.
-    pub fn check_length(self, items: &[Value]) -> Result<(), JobError>
-        ensures { Gives (λ _. tt) result (not_too_long self.node (map view items.now)) }
-    {
-        if items.len() > LIST_LIMIT {
-            return Err(self.fault(JobFaultKind::TooMany(items.len() as u64), "list"));
-        }
-        Ok(())
+/// The columns of a source, at least one.
+#[tactic(auto, unfolding(crate::specs::Parts::columns_of))]
+pub fn read_columns(reader: NodeReader, node: &Value) -> Result<Schema, JobError>
+    ensures { Gives (λ x. x) result (columns_of reader.node (view node.now)) }
+{
+    let items = reader.list(node, "columns")?;
+    if items.is_empty() {
+        return Err(reader.fault(JobFaultKind::BadMember, "columns"));
     }
-
-    /// The columns of a source, at least one.
-    #[tactic(auto, unfolding(crate::specs::Parts::columns_of))]
-    pub fn columns(self, node: &Value) -> Result<Schema, JobError>
-        ensures { Gives (λ x. x) result (columns_of self.node (view node.now)) }
-    {
-        let items = self.list(node, "columns")?;
-        if items.is_empty() {
-            return Err(self.fault(JobFaultKind::BadMember, "columns"));
-        }
-        let Some(columns) = read_columns(self.alloc, items)? else {
-            return Err(self.fault(JobFaultKind::BadMember, "columns"));
-        };
-        self.check_length(items)?;
-        Ok(Schema::from_vec(columns))
-    }
+    let Some(columns) = columns_from(reader.alloc, items)? else {
+        return Err(reader.fault(JobFaultKind::BadMember, "columns"));
+    };
+    reader.check_length(items)?;
+    Ok(Schema::from_vec(columns))
 }
 
-fn read_columns(alloc: Global, items: &[Value]) -> Result<Option<Vec<Column>>, NoMemory>
+fn columns_from(alloc: Global, items: &[Value]) -> Result<Option<Vec<Column>>, NoMemory>
     ensures { IfOk result (λ r. option_map (λ columns. columns.items) r
         ≡ each column_in (map view items.now)) }
 {

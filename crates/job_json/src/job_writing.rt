@@ -8,8 +8,8 @@ ghost use Rattle.job_json.specs.Texts.{printed_text};
 ghost use Rattle.job_json.specs.WellFormed.{IsJobForm};
 
 use crate::Job;
+use crate::names::write_name;
 use crate::node_writing::write_nodes;
-use crate::texts::write_name;
 use plan_model::{SETTINGS, Setting, Settings};
 use row_core::{Bytes, NoMemory};
 use serde_json::{Map, Value, put};

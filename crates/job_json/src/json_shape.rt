@@ -30,7 +30,8 @@ pub fn one_item(value: &Value) -> Option<&Value>
 /// The items of a list that has just two.
 #[tactic(auto, unfolding(crate::specs::Members::two_items_in))]
 pub fn two_items(value: &Value) -> Option<(&Value, &Value)>
-    ensures { option_map (λ p. (view p.0.now, view p.1.now)) result ≡ two_items_in (view value.now) }
+    ensures { option_map (λ p. (view p.0.now, view p.1.now)) result
+        ≡ two_items_in (view value.now) }
 {
     match list_items(value)? {
         [first, second] => Some((first, second)),

@@ -12,17 +12,15 @@ mod job_fault_kind;
 mod job_settings;
 mod job_writing;
 mod json_shape;
-mod members;
 mod names;
+mod node_reader;
 mod node_writing;
 mod nodes;
 mod numbers;
 mod object;
 mod op_kind;
 mod part_writing;
-mod place;
 mod reading;
-mod texts;
 mod words;
 
 pub use job::Job;

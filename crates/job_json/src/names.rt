@@ -1,14 +1,17 @@
 //! Names: of jobs, tables, columns and sinks.
-ghost use Rattle.std.specs.Prelude.{◌≡◌, IfOk, option_map};
+ghost use Rattle.std.specs.Prelude.{◌≡◌, IfOk, IsTrue};
 ghost use Rattle.std.specs.List.{list_all};
+ghost use Rattle.serde_json.specs.Data.{string};
 ghost use Rattle.serde_json.specs.View.{view};
 ghost use Rattle.job_json.specs.Members.{is_name, is_name_byte, name_in};
 
+use expr_json::write_text;
 use row_core::{Bytes, NoMemory};
 use serde_json::Value;
 use std::alloc::Global;
 
-const NAME_LIMIT: usize = 64;
+/// The greatest length of a name, in bytes.
+pub const NAME_LIMIT: usize = 64;
 
 /// The name that a value is, if it is one.
 #[tactic(auto, unfolding(crate::specs::Members::name_in))]
@@ -21,6 +24,15 @@ pub fn read_name(alloc: Global, value: &Value) -> Result<Option<Bytes>, NoMemory
         }
         _ => Ok(None),
     }
+}
+
+/// A name as a JSON value.
+#[tactic(auto, using(crate::proofs::NameBytes::name_is_utf8))]
+pub fn write_name(alloc: Global, name: &Bytes) -> Result<Value, NoMemory>
+    requires { IsTrue (is_name name.now) }
+    ensures { IfOk result (λ value. view value ≡ string name.now) }
+{
+    write_text(alloc, name.as_slice())
 }
 
 fn matches_name(name: &[u8]) -> bool

@@ -1,18 +1,19 @@
 //! Nodes as JSON values.
-ghost use Rattle.std.specs.Prelude.{◌≡◌, ◌<◌, [], length, map, All, IfOk, IsTrue};
+ghost use Rattle.std.specs.Prelude.{◌≡◌, ◌<◌, [], ◌∷◌, codes, length, map, All, IfOk, IsTrue};
 ghost use Rattle.std.specs.List.{list_all};
+ghost use Rattle.serde_json.specs.Data.{string};
 ghost use Rattle.serde_json.specs.View.{view, members_view};
 ghost use Rattle.expr_json.specs.Ranges.{has_utf8_texts, test_has_utf8_texts};
 ghost use Rattle.plan_model.specs.declared.op.Op.TheVariants as Op;
 ghost use Rattle.job_json.specs.Members.{is_name};
-ghost use Rattle.job_json.specs.Spelling.{list_value, input_value, op_members, with_ship, node_value};
+ghost use Rattle.job_json.specs.Spelling.{list_value, input_value, members_from, op_members, with_ship, node_value};
 ghost use Rattle.job_json.specs.WellFormed.{is_named, has_utf8, IsOpForm, IsNodeForm};
 
+use crate::names::write_name;
 use crate::part_writing::{
     join_kind_text, write_aggs, write_columns, write_exprs, write_numbers, write_pairs,
     write_separator,
 };
-use crate::texts::write_name;
 use expr_json::write_test;
 use plan_model::{Aggs, Exprs, JoinKind, KeyPairs, Node, Op, Schema};
 use row_core::{Bytes, Columns, NoMemory, Pred};
@@ -47,12 +48,8 @@ fn add_ship(alloc: Global, rebalance: bool, mut members: Members) -> Result<Memb
         ≡ with_ship rebalance (members_view members.entries)) }
 {
     if rebalance {
-        put(
-            &mut members,
-            alloc,
-            "ship",
-            Value::try_from_str(alloc, "rebalance")?,
-        )?;
+        let ship = Value::try_from_str(alloc, "rebalance")?;
+        put(&mut members, alloc, "ship", ship)?;
     }
     Ok(members)
 }
@@ -69,7 +66,7 @@ fn write_op(alloc: Global, op: &Op, inputs: &Columns) -> Result<Members, NoMemor
         Op::Explode { column, separator } => write_explode(alloc, *column, *separator, inputs),
         Op::Union => write_union(alloc, inputs),
         Op::Aggregate { keys, aggs } => write_aggregate(alloc, keys, aggs, inputs),
-        Op::Distinct => write_distinct(alloc, inputs),
+        Op::Distinct => unary_members(alloc, "distinct", inputs),
         Op::Join { kind, keys } => write_join(alloc, *kind, keys, inputs),
         Op::Sink { name } => write_sink(alloc, name, inputs),
     }
@@ -83,25 +80,36 @@ fn write_input(inputs: &Columns, place: usize) -> Value
     Value::from(inputs.as_slice()[place])
 }
 
+// The member that every node has.
+fn node_members(alloc: Global, op: &str) -> Result<Members, NoMemory>
+    ensures { IfOk result (λ members. members_view members.entries
+        ≡ members_from ((codes "op", string op.now) ∷ [])) }
+{
+    let mut members = Map::new(alloc);
+    put(&mut members, alloc, "op", Value::try_from_str(alloc, op)?)?;
+    Ok(members)
+}
+
+// The members that every node with one input has.
+fn unary_members(alloc: Global, op: &str, inputs: &Columns) -> Result<Members, NoMemory>
+    requires { 0 < length inputs.now }
+    ensures { IfOk result (λ members. members_view members.entries
+        ≡ members_from ((codes "input", input_value inputs.now 0) ∷ (codes "op", string op.now) ∷ [])) }
+{
+    let mut members = node_members(alloc, op)?;
+    put(&mut members, alloc, "input", write_input(inputs, 0))?;
+    Ok(members)
+}
+
 fn write_source(alloc: Global, table: &Bytes, columns: &Schema) -> Result<Members, NoMemory>
     requires table { IsTrue (is_name table.now) }
     requires columns { IsTrue (list_all is_named columns.now) }
     ensures { IfOk result (λ members. members_view members.entries
         ≡ op_members (Op.Source table.now columns.now) []) }
 {
-    let mut members = Map::new(alloc);
-    put(
-        &mut members,
-        alloc,
-        "columns",
-        write_columns(alloc, columns.as_slice())?,
-    )?;
-    put(
-        &mut members,
-        alloc,
-        "op",
-        Value::try_from_str(alloc, "source")?,
-    )?;
+    let mut members = node_members(alloc, "source")?;
+    let columns = write_columns(alloc, columns.as_slice())?;
+    put(&mut members, alloc, "columns", columns)?;
     put(&mut members, alloc, "table", write_name(alloc, table)?)?;
     Ok(members)
 }
@@ -112,14 +120,7 @@ fn write_filter(alloc: Global, test: &Pred, inputs: &Columns) -> Result<Members,
     ensures { IfOk result (λ members. members_view members.entries
         ≡ op_members (Op.Filter test.now) inputs.now) }
 {
-    let mut members = Map::new(alloc);
-    put(&mut members, alloc, "input", write_input(inputs, 0))?;
-    put(
-        &mut members,
-        alloc,
-        "op",
-        Value::try_from_str(alloc, "filter")?,
-    )?;
+    let mut members = unary_members(alloc, "filter", inputs)?;
     put(&mut members, alloc, "where", write_test(alloc, test)?)?;
     Ok(members)
 }
@@ -130,20 +131,9 @@ fn write_project(alloc: Global, exprs: &Exprs, inputs: &Columns) -> Result<Membe
     ensures { IfOk result (λ members. members_view members.entries
         ≡ op_members (Op.Project exprs.now) inputs.now) }
 {
-    let mut members = Map::new(alloc);
-    put(
-        &mut members,
-        alloc,
-        "exprs",
-        write_exprs(alloc, exprs.as_slice())?,
-    )?;
-    put(&mut members, alloc, "input", write_input(inputs, 0))?;
-    put(
-        &mut members,
-        alloc,
-        "op",
-        Value::try_from_str(alloc, "project")?,
-    )?;
+    let mut members = unary_members(alloc, "project", inputs)?;
+    let exprs = write_exprs(alloc, exprs.as_slice())?;
+    put(&mut members, alloc, "exprs", exprs)?;
     Ok(members)
 }
 
@@ -158,40 +148,20 @@ fn write_explode(
     ensures { IfOk result (λ members. members_view members.entries
         ≡ op_members (Op.Explode column separator) inputs.now) }
 {
-    let mut members = Map::new(alloc);
+    let mut members = unary_members(alloc, "explode", inputs)?;
     put(&mut members, alloc, "column", Value::from(column))?;
-    put(&mut members, alloc, "input", write_input(inputs, 0))?;
-    put(
-        &mut members,
-        alloc,
-        "op",
-        Value::try_from_str(alloc, "explode")?,
-    )?;
-    put(
-        &mut members,
-        alloc,
-        "separator",
-        write_separator(alloc, separator)?,
-    )?;
+    let separator = write_separator(alloc, separator)?;
+    put(&mut members, alloc, "separator", separator)?;
     Ok(members)
 }
 
 fn write_union(alloc: Global, inputs: &Columns) -> Result<Members, NoMemory>
-    ensures { IfOk result (λ members. members_view members.entries ≡ op_members Op.Union inputs.now) }
+    ensures { IfOk result (λ members. members_view members.entries
+        ≡ op_members Op.Union inputs.now) }
 {
-    let mut members = Map::new(alloc);
-    put(
-        &mut members,
-        alloc,
-        "inputs",
-        write_numbers(alloc, inputs.as_slice())?,
-    )?;
-    put(
-        &mut members,
-        alloc,
-        "op",
-        Value::try_from_str(alloc, "union")?,
-    )?;
+    let mut members = node_members(alloc, "union")?;
+    let inputs = write_numbers(alloc, inputs.as_slice())?;
+    put(&mut members, alloc, "inputs", inputs)?;
     Ok(members)
 }
 
@@ -205,41 +175,11 @@ fn write_aggregate(
     ensures { IfOk result (λ members. members_view members.entries
         ≡ op_members (Op.Aggregate keys.now aggs.now) inputs.now) }
 {
-    let mut members = Map::new(alloc);
-    put(
-        &mut members,
-        alloc,
-        "aggs",
-        write_aggs(alloc, aggs.as_slice())?,
-    )?;
-    put(&mut members, alloc, "input", write_input(inputs, 0))?;
-    put(
-        &mut members,
-        alloc,
-        "keys",
-        write_numbers(alloc, keys.as_slice())?,
-    )?;
-    put(
-        &mut members,
-        alloc,
-        "op",
-        Value::try_from_str(alloc, "aggregate")?,
-    )?;
-    Ok(members)
-}
-
-fn write_distinct(alloc: Global, inputs: &Columns) -> Result<Members, NoMemory>
-    requires { 0 < length inputs.now }
-    ensures { IfOk result (λ members. members_view members.entries ≡ op_members Op.Distinct inputs.now) }
-{
-    let mut members = Map::new(alloc);
-    put(&mut members, alloc, "input", write_input(inputs, 0))?;
-    put(
-        &mut members,
-        alloc,
-        "op",
-        Value::try_from_str(alloc, "distinct")?,
-    )?;
+    let mut members = unary_members(alloc, "aggregate", inputs)?;
+    let aggs = write_aggs(alloc, aggs.as_slice())?;
+    put(&mut members, alloc, "aggs", aggs)?;
+    let keys = write_numbers(alloc, keys.as_slice())?;
+    put(&mut members, alloc, "keys", keys)?;
     Ok(members)
 }
 
@@ -253,26 +193,12 @@ fn write_join(
     ensures { IfOk result (λ members. members_view members.entries
         ≡ op_members (Op.Join kind keys.now) inputs.now) }
 {
-    let mut members = Map::new(alloc);
-    put(
-        &mut members,
-        alloc,
-        "keys",
-        write_pairs(alloc, keys.as_slice())?,
-    )?;
-    put(
-        &mut members,
-        alloc,
-        "kind",
-        Value::try_from_str(alloc, join_kind_text(kind))?,
-    )?;
+    let mut members = node_members(alloc, "join")?;
+    let keys = write_pairs(alloc, keys.as_slice())?;
+    put(&mut members, alloc, "keys", keys)?;
+    let kind = Value::try_from_str(alloc, join_kind_text(kind))?;
+    put(&mut members, alloc, "kind", kind)?;
     put(&mut members, alloc, "left", write_input(inputs, 0))?;
-    put(
-        &mut members,
-        alloc,
-        "op",
-        Value::try_from_str(alloc, "join")?,
-    )?;
     put(&mut members, alloc, "right", write_input(inputs, 1))?;
     Ok(members)
 }
@@ -283,14 +209,7 @@ fn write_sink(alloc: Global, name: &Bytes, inputs: &Columns) -> Result<Members, 
     ensures { IfOk result (λ members. members_view members.entries
         ≡ op_members (Op.Sink name.now) inputs.now) }
 {
-    let mut members = Map::new(alloc);
-    put(&mut members, alloc, "input", write_input(inputs, 0))?;
+    let mut members = unary_members(alloc, "sink", inputs)?;
     put(&mut members, alloc, "name", write_name(alloc, name)?)?;
-    put(
-        &mut members,
-        alloc,
-        "op",
-        Value::try_from_str(alloc, "sink")?,
-    )?;
     Ok(members)
 }

@@ -6,177 +6,180 @@ ghost use Rattle.serde_json.specs.View.{view};
 ghost use Rattle.job_json.specs.Faults.{Gives};
 ghost use Rattle.job_json.specs.Nodes.{source_of, filter_of, project_of, explode_of, union_of, aggregate_of, distinct_of, join_of, sink_of, node_by, op_kind_of, node_of, nodes_from};
 
+use crate::aggs::read_aggs;
+use crate::columns::read_columns;
+use crate::exprs::{read_exprs, read_where};
+use crate::node_reader::NodeReader;
+use crate::numbers::{read_inputs, read_keys, read_pairs};
 use crate::object::Object;
 use crate::op_kind::OpKind;
-use crate::place::Place;
+use crate::words::{read_join_kind, read_separator, read_ship};
 use crate::{JobError, JobFault, JobFaultKind};
 use plan_model::{Node, Op};
 use row_core::{Columns, NoMemory};
 use serde_json::Value;
 use std::alloc::Global;
 
-impl Place {
-    #[tactic(auto, unfolding(crate::specs::Nodes::source_of))]
-    fn source(self, node: &Value) -> Result<Node, JobError>
-        ensures gives { Gives (λ x. x) result (source_of self.node (view node.now)) }
-        ensures texts { IfOk result (λ node. IsTrue (has_utf8_texts_in node)) }
-    {
-        let table = self.name(node, "table")?;
-        let columns = self.columns(node)?;
-        Ok(Node {
-            op: Op::Source { table, columns },
-            inputs: Columns::from_vec(Vec::new(self.alloc)),
-            rebalance: false,
-        })
-    }
+#[tactic(auto, unfolding(crate::specs::Nodes::source_of))]
+fn read_source(reader: NodeReader, node: &Value) -> Result<Node, JobError>
+    ensures gives { Gives (λ x. x) result (source_of reader.node (view node.now)) }
+    ensures texts { IfOk result (λ node. IsTrue (has_utf8_texts_in node)) }
+{
+    let table = reader.name(node, "table")?;
+    let columns = read_columns(reader, node)?;
+    Ok(Node {
+        op: Op::Source { table, columns },
+        inputs: Columns::from_vec(Vec::new(reader.alloc)),
+        rebalance: false,
+    })
+}
 
-    #[tactic(auto, unfolding(crate::specs::Nodes::filter_of))]
-    fn filter(self, node: &Value) -> Result<Node, JobError>
-        ensures gives { Gives (λ x. x) result (filter_of self.node (view node.now)) }
-        ensures texts { IfOk result (λ node. IsTrue (has_utf8_texts_in node)) }
-    {
-        let input = self.number(node, "input")?;
-        let test = self.test(node)?;
-        let rebalance = self.ship(node)?;
-        Ok(Node {
-            op: Op::Filter { test },
-            inputs: one_input(self.alloc, input)?,
-            rebalance,
-        })
-    }
+#[tactic(auto, unfolding(crate::specs::Nodes::filter_of))]
+fn read_filter(reader: NodeReader, node: &Value) -> Result<Node, JobError>
+    ensures gives { Gives (λ x. x) result (filter_of reader.node (view node.now)) }
+    ensures texts { IfOk result (λ node. IsTrue (has_utf8_texts_in node)) }
+{
+    let input = reader.number(node, "input")?;
+    let test = read_where(reader, node)?;
+    let rebalance = read_ship(reader, node)?;
+    Ok(Node {
+        op: Op::Filter { test },
+        inputs: one_input(reader.alloc, input)?,
+        rebalance,
+    })
+}
 
-    #[tactic(auto, unfolding(crate::specs::Nodes::project_of))]
-    fn project(self, node: &Value) -> Result<Node, JobError>
-        ensures gives { Gives (λ x. x) result (project_of self.node (view node.now)) }
-        ensures texts { IfOk result (λ node. IsTrue (has_utf8_texts_in node)) }
-    {
-        let input = self.number(node, "input")?;
-        let exprs = self.exprs(node)?;
-        let rebalance = self.ship(node)?;
-        Ok(Node {
-            op: Op::Project { exprs },
-            inputs: one_input(self.alloc, input)?,
-            rebalance,
-        })
-    }
+#[tactic(auto, unfolding(crate::specs::Nodes::project_of))]
+fn read_project(reader: NodeReader, node: &Value) -> Result<Node, JobError>
+    ensures gives { Gives (λ x. x) result (project_of reader.node (view node.now)) }
+    ensures texts { IfOk result (λ node. IsTrue (has_utf8_texts_in node)) }
+{
+    let input = reader.number(node, "input")?;
+    let exprs = read_exprs(reader, node)?;
+    let rebalance = read_ship(reader, node)?;
+    Ok(Node {
+        op: Op::Project { exprs },
+        inputs: one_input(reader.alloc, input)?,
+        rebalance,
+    })
+}
 
-    #[tactic(auto, unfolding(crate::specs::Nodes::explode_of))]
-    fn explode(self, node: &Value) -> Result<Node, JobError>
-        ensures gives { Gives (λ x. x) result (explode_of self.node (view node.now)) }
-        ensures texts { IfOk result (λ node. IsTrue (has_utf8_texts_in node)) }
-    {
-        let input = self.number(node, "input")?;
-        let column = self.number(node, "column")?;
-        let separator = self.separator(node)?;
-        let rebalance = self.ship(node)?;
-        Ok(Node {
-            op: Op::Explode { column, separator },
-            inputs: one_input(self.alloc, input)?,
-            rebalance,
-        })
-    }
+#[tactic(auto, unfolding(crate::specs::Nodes::explode_of))]
+fn read_explode(reader: NodeReader, node: &Value) -> Result<Node, JobError>
+    ensures gives { Gives (λ x. x) result (explode_of reader.node (view node.now)) }
+    ensures texts { IfOk result (λ node. IsTrue (has_utf8_texts_in node)) }
+{
+    let input = reader.number(node, "input")?;
+    let column = reader.number(node, "column")?;
+    let separator = read_separator(reader, node)?;
+    let rebalance = read_ship(reader, node)?;
+    Ok(Node {
+        op: Op::Explode { column, separator },
+        inputs: one_input(reader.alloc, input)?,
+        rebalance,
+    })
+}
 
-    #[tactic(auto, unfolding(crate::specs::Nodes::union_of))]
-    fn union(self, node: &Value) -> Result<Node, JobError>
-        ensures gives { Gives (λ x. x) result (union_of self.node (view node.now)) }
-        ensures texts { IfOk result (λ node. IsTrue (has_utf8_texts_in node)) }
-    {
-        let inputs = self.inputs(node)?;
-        Ok(Node {
-            op: Op::Union,
-            inputs,
-            rebalance: false,
-        })
-    }
+#[tactic(auto, unfolding(crate::specs::Nodes::union_of))]
+fn read_union(reader: NodeReader, node: &Value) -> Result<Node, JobError>
+    ensures gives { Gives (λ x. x) result (union_of reader.node (view node.now)) }
+    ensures texts { IfOk result (λ node. IsTrue (has_utf8_texts_in node)) }
+{
+    let inputs = read_inputs(reader, node)?;
+    Ok(Node {
+        op: Op::Union,
+        inputs,
+        rebalance: false,
+    })
+}
 
-    #[tactic(auto, unfolding(crate::specs::Nodes::aggregate_of))]
-    fn aggregate(self, node: &Value) -> Result<Node, JobError>
-        ensures gives { Gives (λ x. x) result (aggregate_of self.node (view node.now)) }
-        ensures texts { IfOk result (λ node. IsTrue (has_utf8_texts_in node)) }
-    {
-        let input = self.number(node, "input")?;
-        let keys = self.keys(node)?;
-        let aggs = self.aggs(node)?;
-        Ok(Node {
-            op: Op::Aggregate { keys, aggs },
-            inputs: one_input(self.alloc, input)?,
-            rebalance: false,
-        })
-    }
+#[tactic(auto, unfolding(crate::specs::Nodes::aggregate_of))]
+fn read_aggregate(reader: NodeReader, node: &Value) -> Result<Node, JobError>
+    ensures gives { Gives (λ x. x) result (aggregate_of reader.node (view node.now)) }
+    ensures texts { IfOk result (λ node. IsTrue (has_utf8_texts_in node)) }
+{
+    let input = reader.number(node, "input")?;
+    let keys = read_keys(reader, node)?;
+    let aggs = read_aggs(reader, node)?;
+    Ok(Node {
+        op: Op::Aggregate { keys, aggs },
+        inputs: one_input(reader.alloc, input)?,
+        rebalance: false,
+    })
+}
 
-    #[tactic(auto, unfolding(crate::specs::Nodes::distinct_of))]
-    fn distinct(self, node: &Value) -> Result<Node, JobError>
-        ensures gives { Gives (λ x. x) result (distinct_of self.node (view node.now)) }
-        ensures texts { IfOk result (λ node. IsTrue (has_utf8_texts_in node)) }
-    {
-        let input = self.number(node, "input")?;
-        Ok(Node {
-            op: Op::Distinct,
-            inputs: one_input(self.alloc, input)?,
-            rebalance: false,
-        })
-    }
+#[tactic(auto, unfolding(crate::specs::Nodes::distinct_of))]
+fn read_distinct(reader: NodeReader, node: &Value) -> Result<Node, JobError>
+    ensures gives { Gives (λ x. x) result (distinct_of reader.node (view node.now)) }
+    ensures texts { IfOk result (λ node. IsTrue (has_utf8_texts_in node)) }
+{
+    let input = reader.number(node, "input")?;
+    Ok(Node {
+        op: Op::Distinct,
+        inputs: one_input(reader.alloc, input)?,
+        rebalance: false,
+    })
+}
 
-    #[tactic(auto, unfolding(crate::specs::Nodes::join_of))]
-    fn join(self, node: &Value) -> Result<Node, JobError>
-        ensures gives { Gives (λ x. x) result (join_of self.node (view node.now)) }
-        ensures texts { IfOk result (λ node. IsTrue (has_utf8_texts_in node)) }
-    {
-        let kind = self.join_kind(node)?;
-        let left = self.number(node, "left")?;
-        let right = self.number(node, "right")?;
-        let keys = self.pairs(node)?;
-        Ok(Node {
-            op: Op::Join { kind, keys },
-            inputs: two_inputs(self.alloc, left, right)?,
-            rebalance: false,
-        })
-    }
+#[tactic(auto, unfolding(crate::specs::Nodes::join_of))]
+fn read_join(reader: NodeReader, node: &Value) -> Result<Node, JobError>
+    ensures gives { Gives (λ x. x) result (join_of reader.node (view node.now)) }
+    ensures texts { IfOk result (λ node. IsTrue (has_utf8_texts_in node)) }
+{
+    let kind = read_join_kind(reader, node)?;
+    let left = reader.number(node, "left")?;
+    let right = reader.number(node, "right")?;
+    let keys = read_pairs(reader, node)?;
+    Ok(Node {
+        op: Op::Join { kind, keys },
+        inputs: two_inputs(reader.alloc, left, right)?,
+        rebalance: false,
+    })
+}
 
-    #[tactic(auto, unfolding(crate::specs::Nodes::sink_of))]
-    fn sink(self, node: &Value) -> Result<Node, JobError>
-        ensures gives { Gives (λ x. x) result (sink_of self.node (view node.now)) }
-        ensures texts { IfOk result (λ node. IsTrue (has_utf8_texts_in node)) }
-    {
-        let input = self.number(node, "input")?;
-        let name = self.name(node, "name")?;
-        let rebalance = self.ship(node)?;
-        Ok(Node {
-            op: Op::Sink { name },
-            inputs: one_input(self.alloc, input)?,
-            rebalance,
-        })
-    }
+#[tactic(auto, unfolding(crate::specs::Nodes::sink_of))]
+fn read_sink(reader: NodeReader, node: &Value) -> Result<Node, JobError>
+    ensures gives { Gives (λ x. x) result (sink_of reader.node (view node.now)) }
+    ensures texts { IfOk result (λ node. IsTrue (has_utf8_texts_in node)) }
+{
+    let input = reader.number(node, "input")?;
+    let name = reader.name(node, "name")?;
+    let rebalance = read_ship(reader, node)?;
+    Ok(Node {
+        op: Op::Sink { name },
+        inputs: one_input(reader.alloc, input)?,
+        rebalance,
+    })
+}
 
-    fn node_by(self, kind: OpKind, node: &Value) -> Result<Node, JobError>
-        ensures gives { Gives (λ x. x) result (node_by kind self.node (view node.now)) }
-        ensures texts { IfOk result (λ node. IsTrue (has_utf8_texts_in node)) }
-    {
-        match kind {
-            OpKind::Source => self.source(node),
-            OpKind::Filter => self.filter(node),
-            OpKind::Project => self.project(node),
-            OpKind::Explode => self.explode(node),
-            OpKind::Union => self.union(node),
-            OpKind::Aggregate => self.aggregate(node),
-            OpKind::Distinct => self.distinct(node),
-            OpKind::Join => self.join(node),
-            OpKind::Sink => self.sink(node),
-        }
+fn read_operator(reader: NodeReader, kind: OpKind, node: &Value) -> Result<Node, JobError>
+    ensures gives { Gives (λ x. x) result (node_by kind reader.node (view node.now)) }
+    ensures texts { IfOk result (λ node. IsTrue (has_utf8_texts_in node)) }
+{
+    match kind {
+        OpKind::Source => read_source(reader, node),
+        OpKind::Filter => read_filter(reader, node),
+        OpKind::Project => read_project(reader, node),
+        OpKind::Explode => read_explode(reader, node),
+        OpKind::Union => read_union(reader, node),
+        OpKind::Aggregate => read_aggregate(reader, node),
+        OpKind::Distinct => read_distinct(reader, node),
+        OpKind::Join => read_join(reader, node),
+        OpKind::Sink => read_sink(reader, node),
     }
+}
 
-    #[tactic(auto, unfolding(crate::specs::Nodes::op_kind_of))]
-    fn op_kind(self, node: &Value) -> Result<OpKind, JobError>
-        ensures { Gives (λ x. x) result (op_kind_of self.node (view node.now)) }
-    {
-        let value = self.member(node, "op")?;
-        let Some(word) = value.as_str() else {
-            return Err(self.fault(JobFaultKind::BadMember, "op"));
-        };
-        match OpKind::named(word) {
-            Some(kind) => Ok(kind),
-            None => Err(self.fault(JobFaultKind::UnknownOp, "op")),
-        }
+#[tactic(auto, unfolding(crate::specs::Nodes::op_kind_of))]
+fn read_op_kind(reader: NodeReader, node: &Value) -> Result<OpKind, JobError>
+    ensures { Gives (λ x. x) result (op_kind_of reader.node (view node.now)) }
+{
+    let value = reader.member(node, "op")?;
+    let Some(word) = value.as_str() else {
+        return Err(reader.fault(JobFaultKind::BadMember, "op"));
+    };
+    match OpKind::named(word) {
+        Some(kind) => Ok(kind),
+        None => Err(reader.fault(JobFaultKind::UnknownOp, "op")),
     }
 }
 
@@ -205,13 +208,13 @@ pub fn read_node(alloc: Global, number: u32, node: &Value) -> Result<Node, JobEr
             name: None,
         }));
     };
-    let at = Place {
+    let reader = NodeReader {
         alloc,
         node: Some(number),
     };
-    let kind = at.op_kind(node)?;
-    let read = at.node_by(kind, node)?;
-    at.check_known(Object::Node(kind), members)?;
+    let kind = read_op_kind(reader, node)?;
+    let read = read_operator(reader, kind, node)?;
+    reader.check_known(Object::Node(kind), members)?;
     Ok(read)
 }
 

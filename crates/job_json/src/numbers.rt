@@ -7,81 +7,76 @@ ghost use Rattle.job_json.specs.Members.{each, is_number, u32_in};
 ghost use Rattle.job_json.specs.Parts.{keys_of, inputs_of, is_pair, pair_in, pairs_of};
 
 use crate::json_shape::{has_number, number_u32, two_items};
-use crate::place::Place;
+use crate::node_reader::NodeReader;
 use crate::{JobError, JobFaultKind};
 use plan_model::KeyPairs;
 use row_core::{Columns, NoMemory};
 use serde_json::Value;
 use std::alloc::Global;
 
-const LEAST_INPUTS: usize = 2;
+/// The least number of inputs of a union.
+pub const LEAST_INPUTS: usize = 2;
 
-const INPUT_LIMIT: usize = 64;
+/// The greatest number of inputs of a union.
+pub const INPUT_LIMIT: usize = 64;
 
-impl Place {
-    /// The key columns of an aggregate.
-    #[tactic(auto, unfolding(crate::specs::Parts::keys_of))]
-    pub fn keys(self, node: &Value) -> Result<Columns, JobError>
-        ensures { Gives (λ x. x) result (keys_of self.node (view node.now)) }
-    {
-        let items = self.list(node, "keys")?;
-        if !has_numbers(items) {
-            return Err(self.fault(JobFaultKind::BadMember, "keys"));
-        }
-        self.check_length(items)?;
-        match read_numbers(self.alloc, items)? {
-            Some(numbers) => Ok(Columns::from_vec(numbers)),
-            None => Err(self.fault(JobFaultKind::BadNumber, "keys")),
-        }
+/// The key columns of an aggregate.
+#[tactic(auto, unfolding(crate::specs::Parts::keys_of))]
+pub fn read_keys(reader: NodeReader, node: &Value) -> Result<Columns, JobError>
+    ensures { Gives (λ x. x) result (keys_of reader.node (view node.now)) }
+{
+    let items = reader.list(node, "keys")?;
+    if !has_numbers(items) {
+        return Err(reader.fault(JobFaultKind::BadMember, "keys"));
     }
-
-    /// The inputs of a union.
-    #[tactic(auto, unfolding(crate::specs::Parts::inputs_of))]
-    pub fn inputs(self, node: &Value) -> Result<Columns, JobError>
-        ensures { Gives (λ x. x) result (inputs_of self.node (view node.now)) }
-    {
-        let items = self.list(node, "inputs")?;
-        if items.len() < LEAST_INPUTS || !has_numbers(items) {
-            return Err(self.fault(JobFaultKind::BadMember, "inputs"));
-        }
-        if items.len() > INPUT_LIMIT {
-            return Err(self.fault(JobFaultKind::TooMany(items.len() as u64), "inputs"));
-        }
-        match read_numbers(self.alloc, items)? {
-            Some(numbers) => Ok(Columns::from_vec(numbers)),
-            None => Err(self.fault(JobFaultKind::BadNumber, "inputs")),
-        }
+    reader.check_length(items)?;
+    match numbers_from(reader.alloc, items)? {
+        Some(numbers) => Ok(Columns::from_vec(numbers)),
+        None => Err(reader.fault(JobFaultKind::BadNumber, "keys")),
     }
+}
 
-    /// The key columns of a join.
-    #[tactic(auto, unfolding(crate::specs::Parts::pairs_of))]
-    pub fn pairs(self, node: &Value) -> Result<KeyPairs, JobError>
-        ensures { Gives (λ x. x) result (pairs_of self.node (view node.now)) }
-    {
-        let items = self.list(node, "keys")?;
-        if !has_pairs(items) {
-            return Err(self.fault(JobFaultKind::BadMember, "keys"));
-        }
-        self.check_length(items)?;
-        match read_pairs(self.alloc, items)? {
-            Some(pairs) => Ok(KeyPairs::from_vec(pairs)),
-            None => Err(self.fault(JobFaultKind::BadNumber, "keys")),
-        }
+/// The inputs of a union.
+#[tactic(auto, unfolding(crate::specs::Parts::inputs_of))]
+pub fn read_inputs(reader: NodeReader, node: &Value) -> Result<Columns, JobError>
+    ensures { Gives (λ x. x) result (inputs_of reader.node (view node.now)) }
+{
+    let items = reader.list(node, "inputs")?;
+    if items.len() < LEAST_INPUTS || !has_numbers(items) {
+        return Err(reader.fault(JobFaultKind::BadMember, "inputs"));
+    }
+    if items.len() > INPUT_LIMIT {
+        return Err(reader.fault(JobFaultKind::TooMany(items.len() as u64), "inputs"));
+    }
+    match numbers_from(reader.alloc, items)? {
+        Some(numbers) => Ok(Columns::from_vec(numbers)),
+        None => Err(reader.fault(JobFaultKind::BadNumber, "inputs")),
+    }
+}
+
+/// The key columns of a join.
+#[tactic(auto, unfolding(crate::specs::Parts::pairs_of))]
+pub fn read_pairs(reader: NodeReader, node: &Value) -> Result<KeyPairs, JobError>
+    ensures { Gives (λ x. x) result (pairs_of reader.node (view node.now)) }
+{
+    let items = reader.list(node, "keys")?;
+    if !has_pairs(items) {
+        return Err(reader.fault(JobFaultKind::BadMember, "keys"));
+    }
+    reader.check_length(items)?;
+    match pairs_from(reader.alloc, items)? {
+        Some(pairs) => Ok(KeyPairs::from_vec(pairs)),
+        None => Err(reader.fault(JobFaultKind::BadNumber, "keys")),
     }
 }
 
 fn has_numbers(items: &[Value]) -> bool
     ensures { result ≡ list_all is_number (map view items.now) }
 {
-    for item in items {
-        if !has_number(item) {
-            return false;
-        }
-    }
-    true
+    items.iter().all(|item| has_number(item))
 }
 
-fn read_numbers(alloc: Global, items: &[Value]) -> Result<Option<Vec<u32>>, NoMemory>
+fn numbers_from(alloc: Global, items: &[Value]) -> Result<Option<Vec<u32>>, NoMemory>
     ensures { IfOk result (λ r. option_map (λ numbers. numbers.items) r
         ≡ each u32_in (map view items.now)) }
 {
@@ -98,12 +93,7 @@ fn read_numbers(alloc: Global, items: &[Value]) -> Result<Option<Vec<u32>>, NoMe
 fn has_pairs(items: &[Value]) -> bool
     ensures { result ≡ list_all is_pair (map view items.now) }
 {
-    for item in items {
-        if !matches_pair(item) {
-            return false;
-        }
-    }
-    true
+    items.iter().all(|item| matches_pair(item))
 }
 
 #[tactic(auto, unfolding(crate::specs::Parts::is_pair))]
@@ -116,7 +106,7 @@ fn matches_pair(value: &Value) -> bool
     }
 }
 
-fn read_pairs(alloc: Global, items: &[Value]) -> Result<Option<Vec<(u32, u32)>>, NoMemory>
+fn pairs_from(alloc: Global, items: &[Value]) -> Result<Option<Vec<(u32, u32)>>, NoMemory>
     ensures { IfOk result (λ r. option_map (λ pairs. pairs.items) r
         ≡ each pair_in (map view items.now)) }
 {

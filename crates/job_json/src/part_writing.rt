@@ -9,8 +9,8 @@ ghost use Rattle.expr_json.specs.Spelling.{expr_value};
 ghost use Rattle.job_json.specs.Spelling.{list_value, number_value, kind_word, column_value, pair_value, column_agg_value, agg_value, join_kind_word};
 ghost use Rattle.job_json.specs.WellFormed.{is_named};
 
-use crate::texts::{write_name, write_text};
-use expr_json::write_expr;
+use crate::names::write_name;
+use expr_json::{write_expr, write_text};
 use plan_model::{Agg, Column, JoinKind, Kind};
 use row_core::{Expr, NoMemory};
 use serde_json::Value;
@@ -127,7 +127,6 @@ pub fn write_exprs(alloc: Global, exprs: &[Expr]) -> Result<Value, NoMemory>
 }
 
 /// A separator as a text.
-
 pub fn write_separator(alloc: Global, separator: u8) -> Result<Value, NoMemory>
     requires { separator < 128 }
     ensures { IfOk result (λ value. view value ≡ string (separator ∷ [])) }

@@ -6,52 +6,50 @@ ghost use Rattle.job_json.specs.Faults.{Gives};
 ghost use Rattle.job_json.specs.Parts.{ascii_in, separator_of, join_kind_named, join_kind_of, rebalance_in, ship_of};
 
 use crate::json_shape::matches_text;
-use crate::place::Place;
+use crate::node_reader::NodeReader;
 use crate::{JobError, JobFaultKind};
 use plan_model::JoinKind;
 use serde_json::Value;
 
-impl Place {
-    /// A separator: a text of one ASCII character.
-    #[tactic(auto, unfolding(crate::specs::Parts::separator_of))]
-    pub fn separator(self, node: &Value) -> Result<u8, JobError>
-        ensures { Gives (λ x. x) result (separator_of self.node (view node.now)) }
-    {
-        let value = self.member(node, "separator")?;
-        match read_ascii(value) {
-            Some(separator) => Ok(separator),
-            None => Err(self.fault(JobFaultKind::BadMember, "separator")),
-        }
-    }
-
-    /// The kind of a join.
-    #[tactic(auto, unfolding(crate::specs::Parts::join_kind_of))]
-    pub fn join_kind(self, node: &Value) -> Result<JoinKind, JobError>
-        ensures { Gives (λ x. x) result (join_kind_of self.node (view node.now)) }
-    {
-        let value = self.member(node, "kind")?;
-        match read_join_kind(value) {
-            Some(kind) => Ok(kind),
-            None => Err(self.fault(JobFaultKind::BadMember, "kind")),
-        }
-    }
-
-    /// Whether a node's rows are to be spread anew; not where `ship` is absent.
-    #[tactic(auto, unfolding(crate::specs::Parts::ship_of))]
-    pub fn ship(self, node: &Value) -> Result<bool, JobError>
-        ensures { Gives (λ x. x) result (ship_of self.node (view node.now)) }
-    {
-        let Some(value) = node.get("ship") else {
-            return Ok(false);
-        };
-        match read_rebalance(value) {
-            Some(rebalance) => Ok(rebalance),
-            None => Err(self.fault(JobFaultKind::BadMember, "ship")),
-        }
+/// A separator: a text of one ASCII character.
+#[tactic(auto, unfolding(crate::specs::Parts::separator_of))]
+pub fn read_separator(reader: NodeReader, node: &Value) -> Result<u8, JobError>
+    ensures { Gives (λ x. x) result (separator_of reader.node (view node.now)) }
+{
+    let value = reader.member(node, "separator")?;
+    match separator_in(value) {
+        Some(separator) => Ok(separator),
+        None => Err(reader.fault(JobFaultKind::BadMember, "separator")),
     }
 }
 
-fn read_ascii(value: &Value) -> Option<u8>
+/// The kind of a join.
+#[tactic(auto, unfolding(crate::specs::Parts::join_kind_of))]
+pub fn read_join_kind(reader: NodeReader, node: &Value) -> Result<JoinKind, JobError>
+    ensures { Gives (λ x. x) result (join_kind_of reader.node (view node.now)) }
+{
+    let value = reader.member(node, "kind")?;
+    match join_kind_in(value) {
+        Some(kind) => Ok(kind),
+        None => Err(reader.fault(JobFaultKind::BadMember, "kind")),
+    }
+}
+
+/// Whether a node's rows are to be spread anew; not where `ship` is absent.
+#[tactic(auto, unfolding(crate::specs::Parts::ship_of))]
+pub fn read_ship(reader: NodeReader, node: &Value) -> Result<bool, JobError>
+    ensures { Gives (λ x. x) result (ship_of reader.node (view node.now)) }
+{
+    let Some(value) = node.get("ship") else {
+        return Ok(false);
+    };
+    match rebalance_in(value) {
+        Some(rebalance) => Ok(rebalance),
+        None => Err(reader.fault(JobFaultKind::BadMember, "ship")),
+    }
+}
+
+fn separator_in(value: &Value) -> Option<u8>
     ensures { result ≡ option_and_then ascii_in (as_str (view value.now)) }
 {
     let text = value.as_str()?.as_bytes();
@@ -61,7 +59,7 @@ fn read_ascii(value: &Value) -> Option<u8>
     None
 }
 
-fn read_join_kind(value: &Value) -> Option<JoinKind>
+fn join_kind_in(value: &Value) -> Option<JoinKind>
     ensures { result ≡ option_and_then join_kind_named (as_str (view value.now)) }
 {
     join_kind_from(value.as_str()?)
@@ -82,7 +80,7 @@ fn join_kind_from(word: &str) -> Option<JoinKind>
     }
 }
 
-fn read_rebalance(value: &Value) -> Option<bool>
+fn rebalance_in(value: &Value) -> Option<bool>
     ensures { result ≡ rebalance_in (view value.now) }
 {
     if matches_text(value, "forward") {

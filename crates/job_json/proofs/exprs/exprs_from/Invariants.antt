@@ -5,7 +5,7 @@ use Rattle.expr_json.specs.Ranges.{has_utf8_texts}
 use Rattle.expr_json.specs.Reading.{expr_of}
 use Rattle.job_json.specs.Members.{each}
 use Rattle.job_json.proofs.Shapes.{with_front}
-use Rattle.job_json.proofs.exprs.read_exprs.Given as goal
+use Rattle.job_json.proofs.exprs.exprs_from.Given as goal
 
 abbrev pub invariant-loop-item : goal.invariant-loop-item
 invariant-loop-item l = record {

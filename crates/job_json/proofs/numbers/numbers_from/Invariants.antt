@@ -2,7 +2,7 @@ use Rattle.std.proofs.Common.{◌≡◌, drop, map}
 use Rattle.serde_json.specs.View.{view}
 use Rattle.job_json.specs.Members.{each, u32_in}
 use Rattle.job_json.proofs.Shapes.{with_front}
-use Rattle.job_json.proofs.numbers.read_numbers.Given as goal
+use Rattle.job_json.proofs.numbers.numbers_from.Given as goal
 
 abbrev pub invariant-loop-item : goal.invariant-loop-item
 invariant-loop-item l = with_front l.numbers.items (each u32_in (map view (drop l.item-index l.items))) ≡ each u32_in (map view l.items)

@@ -1,21 +1,55 @@
-//! The members of an object, by their names.
-ghost use Rattle.std.specs.Prelude.{◌≡◌, map, option_map};
+//! A reader of a job's JSON: what every part of it does with the members of an object.
+ghost use Rattle.std.specs.Prelude.{◌≡◌, IfOk, map, option_map};
 ghost use Rattle.serde_json.specs.View.{view, members_view};
-ghost use Rattle.job_json.specs.Faults.{Gives};
+ghost use Rattle.job_json.specs.Faults.{fault, Gives, TellsFault};
 ghost use Rattle.job_json.specs.Members.{member_of, name_of, number_of, list_of, unknown_among, known_alone};
+ghost use Rattle.job_json.specs.Parts.{not_too_long};
 
 use crate::json_shape::{has_number, list_items, number_u32};
 use crate::names::read_name;
 use crate::object::Object;
-use crate::place::Place;
-use crate::{JobError, JobFaultKind};
-use row_core::Bytes;
+use crate::{JobError, JobFault, JobFaultKind};
+use row_core::{Bytes, NoMemory};
 use serde_json::{Map, Value};
+use std::alloc::Global;
 
-impl Place {
+/// The greatest number of items of a node's list.
+pub const LIST_LIMIT: usize = 256;
+
+/// Reads within a node, or outside the nodes. It takes memory for what it reads and for the faults
+/// that it finds.
+#[derive(Clone, Copy)]
+pub struct NodeReader {
+    pub alloc: Global,
+    pub node: Option<u32>,
+}
+
+impl NodeReader {
+    /// The error for a fault at this name.
+    pub fn fault(self, kind: JobFaultKind, name: &str) -> JobError
+        ensures { TellsFault result (fault kind self.node name.now) }
+    {
+        match self.named_fault(kind, name.as_bytes()) {
+            Ok(fault) => JobError::Fault(fault),
+            Err(_) => JobError::NoMemory,
+        }
+    }
+
+    fn named_fault(self, kind: JobFaultKind, name: &[u8]) -> Result<JobFault, NoMemory>
+        ensures { IfOk result (λ made. made ≡ fault kind self.node name.now) }
+    {
+        let name = Bytes::from_slice(self.alloc, name)?;
+        Ok(JobFault {
+            kind,
+            node: self.node,
+            name: Some(name),
+        })
+    }
+
     /// The member of this name, which must be there.
     pub fn member<'v>(self, object: &'v Value, name: &str) -> Result<&'v Value, JobError>
-        ensures { Gives (λ value. view value.now) result (member_of self.node name.now (view object.now)) }
+        ensures { Gives
+            (λ value. view value.now) result (member_of self.node name.now (view object.now)) }
     {
         match object.get(name) {
             Some(value) => Ok(value),
@@ -53,7 +87,8 @@ impl Place {
     /// A member that is a list.
     #[tactic(auto, unfolding(crate::specs::Members::list_of))]
     pub fn list<'v>(self, object: &'v Value, name: &str) -> Result<&'v [Value], JobError>
-        ensures { Gives (λ items. map view items.now) result (list_of self.node name.now (view object.now)) }
+        ensures { Gives
+            (λ items. map view items.now) result (list_of self.node name.now (view object.now)) }
     {
         let value = self.member(object, name)?;
         match list_items(value) {
@@ -64,17 +99,29 @@ impl Place {
 
     /// Refuses a member that has no meaning, the first in byte order.
     pub fn check_known(self, whose: Object, members: &Map<String, Value>) -> Result<(), JobError>
-        ensures { Gives (λ _. tt) result (known_alone self.node whose (members_view members.now.entries)) }
+        ensures { Gives
+            (λ _. tt) result (known_alone self.node whose (members_view members.now.entries)) }
     {
         match first_unknown(whose, members) {
             None => Ok(()),
             Some(name) => Err(self.fault(JobFaultKind::UnknownMember, name)),
         }
     }
+
+    /// Refuses a list of a node that has too many items.
+    pub fn check_length(self, items: &[Value]) -> Result<(), JobError>
+        ensures { Gives (λ _. tt) result (not_too_long self.node (map view items.now)) }
+    {
+        if items.len() > LIST_LIMIT {
+            return Err(self.fault(JobFaultKind::TooMany(items.len() as u64), "list"));
+        }
+        Ok(())
+    }
 }
 
 fn first_unknown(whose: Object, members: &Map<String, Value>) -> Option<&str>
-    ensures { option_map (λ name. name.now) result ≡ unknown_among whose (members_view members.now.entries) }
+    ensures { option_map (λ name. name.now) result
+        ≡ unknown_among whose (members_view members.now.entries) }
 {
     for (name, _) in members.iter() {
         if !whose.has_member(name.as_str()) {

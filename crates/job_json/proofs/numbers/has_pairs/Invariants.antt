@@ -1,8 +1,0 @@
-use Rattle.std.proofs.Common.{◌≡◌, drop, map}
-use Rattle.std.specs.List.{list_all}
-use Rattle.serde_json.specs.View.{view}
-use Rattle.job_json.specs.Parts.{is_pair}
-use Rattle.job_json.proofs.numbers.has_pairs.Given as goal
-
-abbrev pub invariant-loop-item : goal.invariant-loop-item
-invariant-loop-item l = list_all is_pair (map view (drop l.item-index l.items)) ≡ list_all is_pair (map view l.items)
