@@ -76,19 +76,6 @@ fn a_block_counts_once_its_gate_is_open(rt: HostRuntime) -> Result<(), Fail> {
     Ok(())
 }
 
-#[test]
-fn a_log_of_one_byte_is_fresh(rt: HostRuntime) -> Result<(), Fail> {
-    let alloc = rt.alloc();
-    let mut estate = with_log(alloc, &[9])?;
-    assert!(rt; are(&view(alloc, &mut estate)?, &[]));
-    assert!(rt; are(&add(alloc, &mut estate, &[])?, &[]));
-    // of seven calls two made the log, one viewed it and four started it
-    assert_eq!(rt; estate.moments(), 15);
-    let log = whole_log(&mut estate)?;
-    assert!(rt; log.as_slice() == [0].as_slice());
-    Ok(())
-}
-
 // Whether the answer is that this block is broken, and that these stand before it.
 fn is_broken<T>(answer: &Result<T, LogError>, number: u64, want: &[&[u8]]) -> bool {
     match answer {
@@ -114,36 +101,6 @@ fn a_broken_block_is_told_with_those_before_it(rt: HostRuntime) -> Result<(), Fa
     Ok(())
 }
 
-// How many of two blocks a crash leaves. Their gates are written in the calls 6 and 10, and synced in the
-// calls 7 and 11; half of a write of one byte is none.
-fn blocks_left(moment: u64, choice: u32) -> usize {
-    match (moment, choice) {
-        (0..=12, _) | (13..=15, 0 | 3) => 0,
-        (13..=20, _) | (21..=23, 0 | 3) => 1,
-        _ => 2,
-    }
-}
-
-#[test]
-fn a_flush_stopped_at_every_moment(rt: HostRuntime) -> Result<(), Fail> {
-    let alloc = rt.alloc();
-    let all: [&[u8]; 3] = [b"ab", b"", b"next"];
-    let mut estate = failing_at(alloc, &[])?;
-    add(alloc, &mut estate, &all[..2])?;
-    assert_eq!(rt; estate.moments(), 25);
-    for moment in 0u64..25 {
-        for choice in 0..4 {
-            let mut left = estate.crash(moment, choice)?;
-            let had = add(alloc, &mut left, &all[2..])?;
-            let n = blocks_left(moment, choice);
-            assert!(rt; n <= 2 && are(&had, &all[..n]), "at {moment} by {choice}");
-            let now = view(alloc, &mut left)?;
-            assert_eq!(rt; now.as_slice().len(), n + 1);
-        }
-    }
-    Ok(())
-}
-
 #[test]
 fn each_call_failing_in_turn(rt: HostRuntime) -> Result<(), Fail> {
     let alloc = rt.alloc();
@@ -159,19 +116,5 @@ fn each_call_failing_in_turn(rt: HostRuntime) -> Result<(), Fail> {
         let had = add(alloc, &mut estate, &all)?;
         assert!(rt; are(&had, &all[..usize::from(call == 7)]), "at {call}");
     }
-    Ok(())
-}
-
-#[test]
-fn a_body_one_byte_too_long_is_refused_before_any_call(rt: HostRuntime) -> Result<(), Fail> {
-    let alloc = rt.alloc();
-    let mut estate = failing_at(alloc, &[])?;
-    let (mut log, _blocks) = start(alloc, &mut estate)?;
-    let moments = estate.moments();
-    let body = Bytes::from_vec(vec![in alloc; 0u8; 268_435_447]?);
-    let answer = log.flush(alloc, &mut estate, &body);
-    assert!(rt; matches!(answer, Err(LogError::TooLarge { asked: 268_435_457 })));
-    assert_eq!(rt; estate.moments(), moments);
-    assert_eq!(rt; log.end, 0);
     Ok(())
 }
