@@ -17,7 +17,7 @@ pub struct FolderInputs<'a, R> {
     faults: u64,
 }
 
-/// The files of a table, in the byte order of their names.
+// The files of a table, in the byte order of their names.
 #[derive(Drop)]
 struct Listing {
     table: Bytes,

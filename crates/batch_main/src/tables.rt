@@ -82,11 +82,11 @@ fn read_tables<I: Inputs>(
     ensures tables { IfOk result (λ rows. IsTrue (I.contents inputs.old).told →
         rows ≡ with_files (I.contents inputs.old).files (map (λ table. table.table) tables.items)) }
 {
-    let mut made = Vec::with_capacity(alloc, tables.len())?;
+    let mut rows = Vec::with_capacity(alloc, tables.len())?;
     for table in tables {
-        made.push(read_table(alloc, inputs, table)?)?;
+        rows.push(read_table(alloc, inputs, table)?)?;
     }
-    Ok(TableRows::from_vec(made))
+    Ok(TableRows::from_vec(rows))
 }
 
 fn read_table<I: Inputs>(
@@ -97,8 +97,8 @@ fn read_table<I: Inputs>(
     requires { IsTrue (I.contents inputs.old).told →
         table.files ≡ length ((I.contents inputs.old).files table.table) }
     ensures reads { Reads (I.contents inputs.old) (I.contents inputs.new) result }
-    ensures files { IfOk result (λ made. IsTrue (I.contents inputs.old).told →
-        made ≡ record { table = table.table; rows = (I.contents inputs.old).files table.table }) }
+    ensures files { IfOk result (λ read. IsTrue (I.contents inputs.old).told →
+        read ≡ record { table = table.table; rows = (I.contents inputs.old).files table.table }) }
 {
     let rows = read_files(alloc, inputs, &table.table, table.files)?;
     Ok(TableFiles {
@@ -116,12 +116,12 @@ fn read_files<I: Inputs>(
     requires { IsTrue (I.contents inputs.old).told →
         files ≡ length ((I.contents inputs.old).files table.now) }
     ensures reads { Reads (I.contents inputs.old) (I.contents inputs.new) result }
-    ensures files { IfOk result (λ made. IsTrue (I.contents inputs.old).told →
-        made ≡ (I.contents inputs.old).files table.now) }
+    ensures files { IfOk result (λ read. IsTrue (I.contents inputs.old).told →
+        read ≡ (I.contents inputs.old).files table.now) }
 {
-    let mut made = Vec::new(alloc);
+    let mut texts = Vec::new(alloc);
     for file in 0..files {
-        made.push(inputs.read_file(table, file)?)?;
+        texts.push(inputs.read_file(table, file)?)?;
     }
-    Ok(Files::from_vec(made))
+    Ok(Files::from_vec(texts))
 }

@@ -144,6 +144,14 @@ fn serve_words(
     Ok((outcome.status, printer.printed()?))
 }
 
+// Serves a line of words over a fresh estate, and gives the status, what was printed, and how many commits there are.
+fn serve_line(alloc: Global, line: &str, given: Given<'_>) -> Result<(u8, Bytes, usize), NoMemory> {
+    let mut estate = new_estate(alloc, given.estate)?;
+    let words = words_of(alloc, line)?;
+    let (status, printed) = serve_words(alloc, words.as_slice(), &mut estate, given)?;
+    Ok((status, printed, estate.commits()?.as_slice().len()))
+}
+
 // The rows' text of the first commit, or nothing.
 fn first_text(alloc: Global, estate: &MemEstate) -> Result<Bytes, NoMemory> {
     match estate.commits()?.as_slice().first() {
@@ -261,12 +269,10 @@ fn refuses_with_a_line(rt: HostRuntime) -> Result<(), Fail> {
         ),
     ];
     for (line, given, wanted, told, wanted_commits) in cases {
-        let mut estate = new_estate(alloc, given.estate)?;
-        let words = words_of(alloc, line)?;
-        let (status, printed) = serve_words(alloc, words.as_slice(), &mut estate, given)?;
+        let (status, printed, commits) = serve_line(alloc, line, given)?;
         assert_eq!(rt; status, wanted, "{line}");
         assert_eq!(rt; printed.as_slice(), told.as_bytes(), "{line}");
-        assert_eq!(rt; estate.commits()?.as_slice().len(), wanted_commits);
+        assert_eq!(rt; commits, wanted_commits, "{line}");
     }
     Ok(())
 }
@@ -288,10 +294,7 @@ fn refuses_jobs(rt: HostRuntime) -> Result<(), Fail> {
         ),
     ];
     for (line, job, told) in cases {
-        let mut estate = new_estate(alloc, &[])?;
-        let words = words_of(alloc, line)?;
-        let given = over(job.as_bytes(), &[]);
-        let (status, printed) = serve_words(alloc, words.as_slice(), &mut estate, given)?;
+        let (status, printed, _) = serve_line(alloc, line, over(job.as_bytes(), &[]))?;
         assert_eq!(rt; status, 2, "{line}");
         assert_eq!(rt; printed.as_slice(), told.as_bytes(), "{line}");
     }

@@ -9,6 +9,6 @@ abbrev pub invariant-loop-table : goal.invariant-loop-table
 invariant-loop-table g l = record {
   keeps : KeepsContents (g.I.Inputs.contents l.initial.inputs) (g.I.Inputs.contents l.inputs);
   steady : (g.I.Inputs.contents l.inputs).faults ≡ (g.I.Inputs.contents l.initial.inputs).faults;
-  made : IsTrue (g.I.Inputs.contents l.initial.inputs).told → l.tables.items ++ listed (g.I.Inputs.contents l.initial.inputs).files (into_iter_items l.table-iterator)
+  all : IsTrue (g.I.Inputs.contents l.initial.inputs).told → l.tables.items ++ listed (g.I.Inputs.contents l.initial.inputs).files (into_iter_items l.table-iterator)
       ≡ listed (g.I.Inputs.contents l.initial.inputs).files l.fn.names.items;
 }

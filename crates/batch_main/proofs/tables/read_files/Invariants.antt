@@ -6,5 +6,5 @@ abbrev pub invariant-loop-file : goal.invariant-loop-file
 invariant-loop-file g l = record {
   keeps : KeepsContents (g.I.Inputs.contents l.initial.inputs) (g.I.Inputs.contents l.inputs);
   steady : (g.I.Inputs.contents l.inputs).faults ≡ (g.I.Inputs.contents l.initial.inputs).faults;
-  made : IsTrue (g.I.Inputs.contents l.initial.inputs).told → l.made.items ≡ take l.file ((g.I.Inputs.contents l.initial.inputs).files l.table);
+  read : IsTrue (g.I.Inputs.contents l.initial.inputs).told → l.texts.items ≡ take l.file ((g.I.Inputs.contents l.initial.inputs).files l.table);
 }

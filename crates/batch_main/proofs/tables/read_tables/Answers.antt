@@ -15,6 +15,6 @@ loop-table-preserved g c =
       keeps = keeps_contents_on from before (contents c.read_table.new.inputs) kept c.read_table.ensures.reads.keeps;
       steady = steady_ok c.read_table.result _ _ _ c.in_ok-read_table.was c.read_table.ensures.reads.steady ∙ c.loop-table.invariant.steady;
       right = λ told. all_rest (λ (table : ListedTable). table.files ≡ length (from.files table.table)) c.in-Some.table _ _ next (c.loop-table.invariant.right told);
-      made = λ told. read_more from before kept told c.loop-table.made.items c.push.new.self.items c.in_ok-read_table.field-0 c.in-Some.table _ _ _ next
-          c.in_ok-push.ensures.items c.in_ok-read_table.ensures.files (c.loop-table.invariant.made told);
+      read = λ told. read_more from before kept told c.loop-table.rows.items c.push.new.self.items c.in_ok-read_table.field-0 c.in-Some.table _ _ _ next
+          c.in_ok-push.ensures.items c.in_ok-read_table.ensures.files (c.loop-table.invariant.read told);
     }

@@ -10,6 +10,6 @@ invariant-loop-table g l = let files = (g.I.Inputs.contents l.initial.inputs).fi
   keeps : KeepsContents (g.I.Inputs.contents l.initial.inputs) (g.I.Inputs.contents l.inputs);
   steady : (g.I.Inputs.contents l.inputs).faults ≡ (g.I.Inputs.contents l.initial.inputs).faults;
   right : IsTrue (g.I.Inputs.contents l.initial.inputs).told → All (λ table. table.files ≡ length (files table.table)) (into_iter_items l.table-iterator);
-  made : IsTrue (g.I.Inputs.contents l.initial.inputs).told → l.made.items ++ with_files files (map (λ table. table.table) (into_iter_items l.table-iterator))
+  read : IsTrue (g.I.Inputs.contents l.initial.inputs).told → l.rows.items ++ with_files files (map (λ table. table.table) (into_iter_items l.table-iterator))
       ≡ with_files files (map (λ table. table.table) l.fn.tables.items);
 }
