@@ -2,19 +2,18 @@
 use Rattle.std.proofs.Common.{◌≡◌, ℕ, zero, suc, ◌+◌, ◌<◌, ◌≤◌, ◌==◌, nat_eq, Bool, true, false, ◌||◌, cond, inl, inr, List, [], ◌∷◌, length, find, get_or, Option, Some, None, refl, sym, ◌∙◌, ap, subst, arith}
 use Rattle.std.specs.Option.{option_map, option_map_or}
 use Rattle.std.proofs.lemmas.Bool.{false≢true}
-use Rattle.std.proofs.lemmas.List.{get_or_default}
 use Rattle.std.proofs.lemmas.List.Elements.{recursion_from_All}
 use Rattle.std.proofs.lemmas.Option.{slice_get-get_or}
 use Rattle.plan_model.specs.Checks.{plan_faults}
 use Rattle.plan_model.specs.declared.node.Node.{Node}
 use Rattle.vertex_builder.specs.declared.edge.Edge.{Edge}
 use Rattle.vertex_builder.specs.Edges.{edges_into, edges_from, edges_of, consumer_edges, input_edges, may_chain, is_chained, chained_after, is_head}
-use Rattle.vertex_builder.specs.Vertices.{is_among}
+use Rattle.vertex_builder.specs.Chains.{is_among}
 use Rattle.vertex_builder.proofs.Chaining.{no_node}
-use Rattle.vertex_builder.proofs.GoodNodes.{good_node}
-use Rattle.plan_text.specs.Making.{chain_from, chain_of}
-use Rattle.plan_text.proofs.Chains.{chained_is_later}
-use Rattle.plan_text.proofs.Membership.{same_yes, same_number, either_left, either_right, both_left, IsIn, in_front, in_back, in_filter, in_one, all_in, one_passes}
+use Rattle.plan_model.proofs.Laws.{inputs_earlier}
+use Rattle.vertex_builder.specs.Chains.{is_among, chain_from, chain_of, HasHead}
+use Rattle.vertex_builder.proofs.Following.{chained_is_later}
+use Rattle.vertex_builder.proofs.Membership.{same_yes, same_number, either_left, either_right, both_left, IsIn, in_front, in_back, in_filter, in_one, all_in, one_passes}
 
 -- ---- edges of a node
 
@@ -72,13 +71,6 @@ follows nodes (suc more) head x y good le inside next =
 
 -- ---- each node
 
--- a head at or before the node, in whose chain it stands
-pub record HasHead (nodes : List Node) (node : ℕ) : Type 0 where
-  pub head : ℕ
-  pub before : head ≤ node
-  pub is : is_head nodes head ≡ true
-  pub inside : is_among (chain_of nodes head) node ≡ true
-
 module _ (nodes : List Node) (good : plan_faults nodes ≡ []) where
   -- the edge that chains a node behind another
   record IsChainedBy (node : ℕ) (edge : Edge) : Type 0 where
@@ -91,12 +83,12 @@ module _ (nodes : List Node) (good : plan_faults nodes ≡ []) where
       let edges : input_edges nodes node ≡ edges_into node 0 here.inputs = ap (λ (o : Option Node). option_map_or (λ n. edges_into node 0 n.inputs) o []) (slice_get-get_or nodes node no_node lt) in
       let inside : IsIn edge (edges_into node 0 here.inputs) = subst (IsIn edge) edges h in
       let goes = goes_into node 0 here.inputs edge inside in
-      let inputs = good_node nodes node here good lt (get_or_default nodes node no_node here lt) in
+      let inputs = inputs_earlier nodes node here good (slice_get-get_or nodes node no_node lt) in
       let all : IsIn edge (edges_of nodes) = in_edges_from 0 nodes node node edge lt (omega arith) inside in
       let among : IsIn edge (consumer_edges nodes edge.from) = in_filter edge (λ (e : Edge). e.from == edge.from) (edges_of nodes) (same_yes edge.from) all in
       let one : length (consumer_edges nodes edge.from) ≡ 1 = same_number (length (consumer_edges nodes edge.from)) 1 (both_left (length (consumer_edges nodes edge.from) == 1) (may_chain nodes edge) chained) in
       record {
-        before = all_in (λ input. input < node) edge.from here.inputs (recursion_from_All (λ input. input < node) here.inputs inputs.before) goes.from;
+        before = all_in (λ input. input < node) edge.from here.inputs (recursion_from_All (λ input. input < node) here.inputs inputs) goes.from;
         next = ap (λ (l : List Edge). option_map (λ (e : Edge). e.into) (find (is_chained nodes) l)) (in_one edge (consumer_edges nodes edge.from) one among)
             ∙ ap (λ (b : Bool). option_map (λ (e : Edge). e.into) (cond b (Some edge) None)) chained
             ∙ ap (λ (n : ℕ). Some n) goes.into;

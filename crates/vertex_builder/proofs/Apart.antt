@@ -7,17 +7,19 @@ use Rattle.std.proofs.lemmas.List.Folds.{list_any-append}
 use Rattle.std.proofs.lemmas.Map.Keys.{IsDistinct-head, IsDistinct-tail, IsDistinct-cons}
 use Rattle.std.proofs.lemmas.Option.{none-some, slice_get-get_or}
 use Rattle.plan_model.specs.Checks.{plan_faults}
+use Rattle.plan_model.specs.Operators.{may_rebalance, takes_one}
 use Rattle.plan_model.specs.declared.node.Node.{Node}
+use Rattle.plan_model.specs.declared.op.Op.{Op}
+use Rattle.plan_model.specs.declared.op.Op.TheVariants.{Source, Filter, Project, Explode, Union, Aggregate, Distinct, Join, Sink}
 use Rattle.vertex_builder.specs.declared.edge.Edge.{Edge}
-use Rattle.vertex_builder.specs.Edges.{edges_into, edges_from, edges_of, consumer_edges, input_edges, edge_ship, is_forward, is_rowwise, may_chain, is_chained, chained_after, is_head}
-use Rattle.vertex_builder.specs.Vertices.{is_among}
+use Rattle.vertex_builder.specs.Edges.{edges_into, edges_from, edges_of, consumer_edges, input_edges, edge_ship, is_forward, may_chain, is_chained, chained_after, is_head}
+use Rattle.vertex_builder.specs.Chains.{is_among}
 use Rattle.vertex_builder.proofs.Chaining.{no_node}
-use Rattle.plan_text.specs.Making.{chain_from, chain_of, nodes_of_vertices, making_order}
-use Rattle.plan_text.proofs.Chains.{chained_is_later, same_item}
-use Rattle.plan_text.proofs.Covered.{goes_into, starts}
-use Rattle.plan_text.proofs.EachHead.{are_heads}
-use Rattle.plan_text.proofs.Membership.{same_yes, same_number, other_number, either_left, either_right, both_left, both_right, all_map, distinct_append, distinct_range, IsIn, in_one}
-use Rattle.plan_text.proofs.OneInput.{takes_one}
+use Rattle.vertex_builder.specs.Chains.{is_among, chain_from, chain_of, TakesAfter}
+use Rattle.vertex_builder.proofs.Following.{chained_is_later, same_item}
+use Rattle.vertex_builder.proofs.Covered.{goes_into, starts}
+use Rattle.vertex_builder.proofs.Membership.{same_yes, same_number, other_number, either_left, either_right, both_left, both_right, all_map, none_twice, IsIn, in_one}
+use Rattle.plan_model.proofs.Laws.{one_input}
 
 -- ---- what stands in lists
 
@@ -50,6 +52,18 @@ module _ {X : Type 0} where
   each_passes p x (y ∷ xs) e (inr h) = each_passes p x xs (both_right (p y) (list_all p xs) e) h
 
 -- ---- the edge that chains
+
+-- an operator that works on one row at a time takes one input
+takes_one_row : (op : Op) → may_rebalance op ≡ true → takes_one op ≡ true
+takes_one_row (Filter test) e = refl
+takes_one_row (Project exprs) e = refl
+takes_one_row (Explode column separator) e = refl
+takes_one_row (Sink name) e = refl
+takes_one_row (Source table columns) e = e
+takes_one_row Union e = e
+takes_one_row (Aggregate keys aggs) e = refl
+takes_one_row Distinct e = refl
+takes_one_row (Join kind keys) e = e
 
 -- an edge of the plan is one into its consumer
 record ComesTo (place : ℕ) (nodes : List Node) (edge : Edge) : Type 0 where
@@ -88,7 +102,7 @@ found_in p (edge ∷ edges) into e = at (p edge) refl (found_in p edges into) e
 record ChainedTo (nodes : List Node) (before node : ℕ) : Type 0 where
   pub within : node < length nodes
   pub input : IsIn before (get_or nodes node no_node).inputs
-  pub rowwise : is_rowwise (get_or nodes node no_node).op ≡ true
+  pub rowwise : may_rebalance (get_or nodes node no_node).op ≡ true
   pub no_head : is_head nodes node ≡ true → ⊥
 
 chained_to : (nodes : List Node) (before node : ℕ) → chained_after nodes before ≡ Some node → ChainedTo nodes before node
@@ -111,18 +125,29 @@ chained_to nodes before node next =
     record {
       within = within;
       input = subst (λ (n : ℕ). IsIn before (get_or nodes n no_node).inputs) here (subst (λ (n : ℕ). IsIn n (get_or nodes to.at no_node).inputs) from goes.from);
-      rowwise = sym (ap (λ (o : Option Node). option_map_or (λ n. is_rowwise n.op) o false) get) ∙ both_left (option_map_or (λ n. is_rowwise n.op) (slice_get nodes edge.into) false) (is_forward (edge_ship nodes edge)) may;
+      rowwise = sym (ap (λ (o : Option Node). option_map_or (λ n. may_rebalance n.op) o false) get) ∙ both_left (option_map_or (λ n. may_rebalance n.op) (slice_get nodes edge.into) false) (is_forward (edge_ship nodes edge)) may;
       no_head = λ head. false≢true (ap not (sym found.passes) ∙ each_passes (λ (e : Edge). not (is_chained nodes e)) edge (input_edges nodes node) head edges);
     }
 
 module _ (nodes : List Node) (good : plan_faults nodes ≡ []) where
+  pub takes_after : (before node : ℕ) → chained_after nodes before ≡ Some node → TakesAfter nodes before node
+  takes_after before node to =
+      let by = chained_to nodes before node to in
+      let it = get_or nodes node no_node in
+      let at = slice_get-get_or nodes node no_node by.within in
+      record {
+        it = it;
+        at = at;
+        input = in_one before it.inputs (one_input nodes node it good at (takes_one_row it.op by.rowwise)) by.input;
+        row = by.rowwise;
+      }
+
   one_before : (a b node : ℕ) → chained_after nodes a ≡ Some node → chained_after nodes b ≡ Some node → a ≡ b
   one_before a b node to_a to_b =
-      let by_a = chained_to nodes a node to_a in
-      let by_b = chained_to nodes b node to_b in
-      let inputs : List ℕ = (get_or nodes node no_node).inputs in
-      let one : length inputs ≡ 1 = takes_one nodes node good by_a.within by_a.rowwise in
-      ap (λ (l : List ℕ). get_or l 0 0) (sym (in_one a inputs one by_a.input) ∙ in_one b inputs one by_b.input)
+      let by_a = takes_after a node to_a in
+      let by_b = takes_after b node to_b in
+      let same = ap (λ (o : Option Node). option_map_or (λ n. n.inputs) o []) (sym by_a.at ∙ by_b.at) in
+      ap (λ (l : List ℕ). get_or l 0 0) (sym by_a.input ∙ same ∙ by_b.input)
 
   -- ---- one head
 
@@ -172,6 +197,9 @@ module _ (nodes : List Node) (good : plan_faults nodes ≡ []) where
           let later = chained_is_later nodes by_a.before node good by_a.next in
           rest by_a.before (omega (arith, later.above, lt)) head_a head_b by_a.inside (ap (is_among (chain_of nodes b)) (sym same) ∙ by_b.inside)
 
+  pub one_head : (node a b : ℕ) → is_head nodes a ≡ true → is_head nodes b ≡ true → is_among (chain_of nodes a) node ≡ true → is_among (chain_of nodes b) node ≡ true → a ≡ b
+  one_head node a b = one_head_below (suc node) node a b (omega arith)
+
   -- ---- one place in the chain
 
   chain_above : (more node : ℕ) → AllByRecursion (λ q. node ≤ q) (chain_from more nodes node)
@@ -184,65 +212,14 @@ module _ (nodes : List Node) (good : plan_faults nodes ≡ []) where
           let later = chained_is_later nodes node z good to in
           all_map (λ q. z ≤ q) (λ q. node ≤ q) (chain_from more nodes z) (rest z) (λ q le. omega (arith, le, later.above))
 
-  chain_distinct : (more node : ℕ) → IsDistinct nat_eq (chain_from more nodes node)
-  chain_distinct zero node = IsDistinct-cons nat_eq node [] tt (distinct_range 0)
+  pub chain_distinct : (more node : ℕ) → IsDistinct nat_eq (chain_from more nodes node)
+  chain_distinct zero node = IsDistinct-cons nat_eq node [] tt none_twice
   chain_distinct (suc more) node = at (chained_after nodes node) refl (chain_distinct more)
     where
       at : (o : Option ℕ) → chained_after nodes node ≡ o → ((z : ℕ) → IsDistinct nat_eq (chain_from more nodes z)) → IsDistinct nat_eq (node ∷ option_map_or (chain_from more nodes) o [])
-      at None to rest = IsDistinct-cons nat_eq node [] tt (distinct_range 0)
+      at None to rest = IsDistinct-cons nat_eq node [] tt none_twice
       at (Some z) to rest =
           let later = chained_is_later nodes node z good to in
           IsDistinct-cons nat_eq node (chain_from more nodes z)
           (all_map (λ q. z ≤ q) (λ q. nat_eq node q ≡ false) (chain_from more nodes z) (chain_above more z) (λ q le. other_number node q (omega (arith, le, later.above))))
           (rest z)
-
--- ---- all chains
-
-each_among : (P : ℕ → Type 0) (xs : List ℕ) (z : ℕ) → AllByRecursion P xs → is_among xs z ≡ true → P z
-each_among P [] z all e = absurd (false≢true e)
-each_among P (x ∷ xs) z all e = at (nat_eq z x) refl (each_among P xs z all.1)
-  where
-    at : (b : Bool) → nat_eq z x ≡ b → (is_among xs z ≡ true → P z) → P z
-    at true is rest = subst P (sym (same_number z x is)) all.0
-    at false is rest = rest (sym (ap (λ (b : Bool). b || is_among xs z) is) ∙ e)
-
-all_among : (P : ℕ → Type 0) (xs : List ℕ) → ((z : ℕ) → is_among xs z ≡ true → P z) → AllByRecursion P xs
-all_among P [] h = tt
-all_among P (x ∷ xs) h = (h x (either_left (nat_eq x x) (is_among xs x) (same_yes x)), all_among P xs (λ z e. h z (either_right (nat_eq z x) (is_among xs z) e)))
-
-record InPiece (f : ℕ → List ℕ) (xs : List ℕ) (q : ℕ) : Type 0 where
-  pub item : ℕ
-  pub among : is_among xs item ≡ true
-  pub inside : is_among (f item) q ≡ true
-
-in_piece : (f : ℕ → List ℕ) (xs : List ℕ) (q : ℕ) → is_among (flat_map f xs) q ≡ true → InPiece f xs q
-in_piece f [] q e = absurd (false≢true e)
-in_piece f (x ∷ xs) q e = at (is_among (f x) q) refl (in_piece f xs q) (sym (list_any-append (nat_eq q) (f x) (flat_map f xs)) ∙ e)
-  where
-    at : (b : Bool) → is_among (f x) q ≡ b → (is_among (flat_map f xs) q ≡ true → InPiece f xs q) → (b || is_among (flat_map f xs) q) ≡ true → InPiece f (x ∷ xs) q
-    at true is rest says = record { item = x; among = either_left (nat_eq x x) (is_among xs x) (same_yes x); inside = is }
-    at false is rest says = let r = rest says in record { item = r.item; among = either_right (nat_eq r.item x) (is_among xs r.item) r.among; inside = r.inside }
-
--- no number stands in the pieces of two items
-abbrev ArePiecesApart : (ℕ → List ℕ) → List ℕ → Type 0
-ArePiecesApart f xs = (a b q : ℕ) → is_among xs a ≡ true → is_among xs b ≡ true → is_among (f a) q ≡ true → is_among (f b) q ≡ true → a ≡ b
-
-pieces_distinct : (f : ℕ → List ℕ) (xs : List ℕ) → IsDistinct nat_eq xs → ((x : ℕ) → IsDistinct nat_eq (f x)) → ArePiecesApart f xs → IsDistinct nat_eq (flat_map f xs)
-pieces_distinct f [] d each apart = distinct_range 0
-pieces_distinct f (x ∷ xs) d each apart =
-    distinct_append (f x) (flat_map f xs) (each x)
-    (pieces_distinct f xs (IsDistinct-tail nat_eq x xs d) each (λ a b q in_a in_b. apart a b q (either_right (nat_eq a x) (is_among xs a) in_a) (either_right (nat_eq b x) (is_among xs b) in_b)))
-    (all_among (λ q. is_among (f x) q ≡ false) (flat_map f xs) (λ q e. at q (is_among (f x) q) refl (in_piece f xs q e)))
-  where
-    at : (q : ℕ) (b : Bool) → is_among (f x) q ≡ b → InPiece f xs q → is_among (f x) q ≡ false
-    at q true is by =
-        let same = apart x by.item q (either_left (nat_eq x x) (is_among xs x) (same_yes x)) (either_right (nat_eq by.item x) (is_among xs by.item) by.among) is by.inside in
-        let other = each_among (λ y. nat_eq x y ≡ false) xs by.item (IsDistinct-head nat_eq x xs d) by.among in
-        absurd (false≢true (sym other ∙ ap (λ (n : ℕ). nat_eq x n) (sym same) ∙ same_yes x))
-    at q false is by = is
-
-pub shown_once : (nodes : List Node) → plan_faults nodes ≡ [] → IsDistinct nat_eq (nodes_of_vertices nodes (making_order nodes))
-shown_once nodes good =
-    let all = are_heads nodes (length nodes) in
-    pieces_distinct (chain_of nodes) (making_order nodes) all.distinct (chain_distinct nodes good (length nodes))
-    (λ a b q in_a in_b. one_head_below nodes good (suc q) q a b (omega arith) (all.heads a in_a).head (all.heads b in_b).head)
