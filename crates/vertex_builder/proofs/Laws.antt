@@ -1,15 +1,17 @@
 -- The laws of chains and vertices, for proofs of the crates above.
-use Rattle.std.proofs.Common.{◌≡◌, ℕ, ◌-◌, List, [], length, get_or, Some, ap, ◌∙◌}
+use Rattle.std.proofs.Common.{◌≡◌, ℕ, ◌-◌, List, [], false, length, map, get_or, Some, slice_get, ap, ◌∙◌}
 use Rattle.plan_model.specs.Checks.{plan_faults}
+use Rattle.plan_model.specs.Operators.{is_source}
 use Rattle.plan_model.specs.declared.node.Node.{Node}
 use Rattle.vertex_builder.specs.Chains.{ChainsPart, OneChain, TakesAfter, chain_of}
-use Rattle.vertex_builder.specs.Edges.{chained_after}
-use Rattle.vertex_builder.specs.Vertices.{OneAnswer, IsVertex, head_of, vertex_of, vertex_outputs}
+use Rattle.vertex_builder.specs.Edges.{chained_after, edges_into}
+use Rattle.vertex_builder.specs.Vertices.{OneAnswer, IsVertex, head_of, vertex_of, vertex_input, vertex_inputs, vertex_outputs}
 use Rattle.vertex_builder.specs.declared.vertex.Vertex.{Vertex}
 use Rattle.vertex_builder.proofs.Apart as apart
 use Rattle.vertex_builder.proofs.Chains as chains
 use Rattle.vertex_builder.proofs.Covered as covered
 use Rattle.vertex_builder.proofs.Following as following
+use Rattle.vertex_builder.proofs.Parts as parts
 
 pub one_chain : OneChain
 one_chain = chains.one_chain
@@ -36,3 +38,7 @@ chains_part nodes good = record {
   once = apart.chain_distinct nodes good (length nodes);
   inside = λ head node. following.chain_within nodes (length nodes) head node good;
 }
+
+-- what comes in at a head that is no source
+pub inputs_of_edges : (nodes : List Node) (head : ℕ) (node : Node) → slice_get nodes head ≡ Some node → is_source node.op ≡ false → vertex_inputs nodes head ≡ map (vertex_input nodes) (edges_into head 0 node.inputs)
+inputs_of_edges = parts.inputs_of_edges
