@@ -3,7 +3,7 @@ use Rattle.std.proofs.Common.{◌≡◌, ℕ, zero, suc, ◌<◌, ◌≤◌, ◌
 use Rattle.std.proofs.lemmas.Bool.{leb-true, ltb-true}
 use Rattle.std.proofs.lemmas.Fmt.{length_signed_le}
 use Rattle.std.proofs.lemmas.Int.{ints}
-use Rattle.std.proofs.lemmas.List.Elements.{All-nil, All-cons, All-head, All-tail, All-append, All-filter, All-map}
+use Rattle.std.proofs.lemmas.List.Elements.{All-nil, All-cons, All-head, All-tail, All-append, All-filter, All-map, All-push}
 use Rattle.std.specs.Fmt.{signed_decimal}
 use Rattle.std.specs.Int.Signed.{mag}
 use Rattle.std.specs.List.{flat_map, filter, AllByRecursion}
@@ -25,7 +25,7 @@ use Rattle.row_core.specs.declared.value.Value.TheVariants.{Null, Int, Text}
 use Rattle.bag_laws.specs.Rows.{OneRow as Row}
 use Rattle.plan_model.specs.Joins.{matches, nulls, or_padded, if_matched, if_unmatched, joined}
 use Rattle.plan_model.specs.Operators.{with_byte, pieces, with_pieces, column_of, numbers_of, whole_sum, sum_value, lesser_value, least, greatest, agg_value, rows_with, key_of}
-use Rattle.plan_model.specs.Plans.{Bag, bag_at, bag_of}
+use Rattle.plan_model.specs.Plans.{Bag, bag_at, bag_of, bags_from, bags_of}
 use Rattle.plan_model.specs.Tables.{cell_value, digits_cell, int_cell, row_of, signed_value, table_rows}
 use Rattle.plan_model.specs.declared.agg.Agg.{Agg}
 use Rattle.plan_model.specs.declared.agg.Agg.TheVariants.{Count, Sum, Min, Max}
@@ -33,6 +33,7 @@ use Rattle.plan_model.specs.declared.join_kind.JoinKind.{JoinKind}
 use Rattle.plan_model.specs.declared.join_kind.JoinKind.TheVariants as kind
 use Rattle.plan_model.specs.declared.kind.Kind.{Kind}
 use Rattle.plan_model.specs.declared.kind.Kind.TheVariants.{IntKind, TextKind}
+use Rattle.plan_model.specs.declared.node.Node.{Node}
 use Rattle.plan_model.specs.declared.op.Op.{Op}
 use Rattle.plan_model.specs.declared.op.Op.TheVariants.{Source, Filter, Project, Explode, Union, Aggregate, Distinct, Join, Sink}
 use Rattle.operator_laws.specs.Applied.{applied}
@@ -335,6 +336,19 @@ node_fits files Distinct inputs constants fit = applied_fits Distinct (bag_at in
 node_fits files (Join kind keys) inputs constants fit =
     joined_fits kind keys (bag_at inputs 0).width (bag_at inputs 1).width (bag_at inputs 0).rows (bag_at inputs 1).rows (input_fits inputs 0 fit) (input_fits inputs 1 fit)
 node_fits files (Sink name) inputs constants fit = input_fits inputs 0 fit
+
+bags_fit : (files : List ℕ → List (List ℕ)) (bags : List Bag) (nodes : List Node) → All (λ bag. ValuesFit bag.rows) bags → All (λ node. ConstantsFit node.op) nodes
+    → All (λ bag. ValuesFit bag.rows) (bags_from files bags nodes)
+bags_fit files bags [] fit constants = fit
+bags_fit files bags (node ∷ nodes) fit constants =
+    let inputs : All (λ bag. ValuesFit bag.rows) (map (bag_at bags) node.inputs) =
+    All-map (λ bag. ValuesFit bag.rows) (bag_at bags) node.inputs (λ k d lt. input_fits bags (get_or node.inputs k d) fit) in
+    let own = node_fits files node.op (map (bag_at bags) node.inputs) (All-head (λ node. ConstantsFit node.op) node nodes constants) inputs in
+    bags_fit files (bags ++ bag_of files node.op (map (bag_at bags) node.inputs) ∷ []) nodes
+    (All-push (λ bag. ValuesFit bag.rows) bags (bag_of files node.op (map (bag_at bags) node.inputs)) fit own) (All-tail (λ node. ConstantsFit node.op) node nodes constants)
+
+pub plan_fits : (files : List ℕ → List (List ℕ)) (nodes : List Node) → All (λ node. ConstantsFit node.op) nodes → All (λ bag. ValuesFit bag.rows) (bags_of files nodes)
+plan_fits files nodes constants = bags_fit files [] nodes (All-nil (λ bag. ValuesFit bag.rows)) constants
 
 -- ---- texts
 

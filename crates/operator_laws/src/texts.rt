@@ -1,8 +1,9 @@
 ghost use Rattle.std.specs.Prelude.{ℕ, All, List};
 ghost use Rattle.bag_laws.specs.Rows.{OneRow};
 ghost use Rattle.plan_model.specs.Joins.{joined};
-ghost use Rattle.plan_model.specs.Plans.{Bag, bag_of};
+ghost use Rattle.plan_model.specs.Plans.{Bag, bag_of, bags_of};
 ghost use Rattle.plan_model.specs.declared.join_kind.JoinKind.{JoinKind as OneKind};
+ghost use Rattle.plan_model.specs.declared.node.Node.{Node as OneNode};
 ghost use Rattle.plan_model.specs.declared.op.Op.{Op as OneOp};
 ghost use Rattle.operator_laws.specs.Applied.{applied};
 ghost use Rattle.operator_laws.specs.Texts.{ConstantsFit, TextsFit, ValuesFit};
@@ -19,5 +20,8 @@ pub fn texts_are_kept()
     ensures node { (files : List ℕ → List (List ℕ)) (op : OneOp) (inputs : List Bag)
         → ConstantsFit op → All (λ bag. ValuesFit bag.rows) inputs
         → ValuesFit (bag_of files op inputs).rows }
+    ensures plan { (files : List ℕ → List (List ℕ)) (nodes : List OneNode)
+        → All (λ node. ConstantsFit node.op) nodes
+        → All (λ bag. ValuesFit bag.rows) (bags_of files nodes) }
     ensures texts { (rows : List OneRow) → ValuesFit rows → TextsFit rows }
 {}

@@ -10,8 +10,8 @@ use Rattle.rect_cover.specs.Vertices.{Head, Link, head_rows, linked, readings, w
 use Rattle.rect_cover.specs.Vertices.{IsPlaced, LinksByBags}
 
 -- what a vertex gives: its chain, of what its head gives
-abbrev pub vertex_rows : Head → List Link → List (List Row) → List (List Row) → List Row
-vertex_rows head links inputs wide = chained (linked links wide) (head_rows head inputs)
+abbrev pub chain_rows : Head → List Link → List (List Row) → List (List Row) → List Row
+chain_rows head links inputs wide = chained (linked links wide) (head_rows head inputs)
 
 -- the sum, over the subtasks of a cover, of head and chain on what they read is head and chain on
 -- the whole
@@ -19,9 +19,9 @@ abbrev pub VertexLaw : Type 0
 VertexLaw = (head : Head) (links : List Link) (inputs wide : List Input) (subtasks : List Reads)
     → IsCover (shape_of head inputs wide) subtasks → IsPlaced head inputs → LinksByBags links
     → SameBag
-    (flat_map (λ subtask. vertex_rows head links
+    (flat_map (λ subtask. chain_rows head links
     (readings inputs 0 subtask) (readings wide (length inputs) subtask)) subtasks)
-    (vertex_rows head links (wholes inputs) (wholes wide))
+    (chain_rows head links (wholes inputs) (wholes wide))
 
 -- the sum over the subtasks of what they give of what they read of two inputs is what is given of
 -- the whole

@@ -21,10 +21,10 @@ use Rattle.plan_model.specs.declared.op.Op.TheVariants.{Source, Filter, Project,
 use Rattle.plan_model.specs.declared.ship.Ship.{Ship}
 use Rattle.plan_model.specs.declared.ship.Ship.TheVariants.{Forward, Hash, Rebalance}
 use Rattle.operator_laws.specs.Applied.{left_columns, right_columns}
-use Rattle.rect_cover.specs.declared.grid.Grid.{Grid}
+use Rattle.rect_cover.specs.Cells.{Input}
 use Rattle.rect_cover.specs.Heads.{MatchesInColumn, MeetsInColumn, StandsAt}
 use Rattle.rect_cover.specs.Operators.{aggregate_head, distinct_head, join_head}
-use Rattle.rect_cover.specs.Vertices.{Input, GoesByBags, IsPlaced}
+use Rattle.rect_cover.specs.Vertices.{GoesByBags, IsPlaced}
 use Rattle.vertex_builder.specs.Edges.{edges_into, edge_ship, op_ship, ship_into}
 use Rattle.vertex_builder.specs.Vertices.{vertex_input, vertex_inputs}
 use Rattle.vertex_builder.specs.declared.edge.Edge.{Edge}
@@ -39,14 +39,14 @@ pub record HeadLaws : Type 0 where
   pub aggregates : (keys : List ℕ) (aggs : List Agg) → GoesByBags (aggregate_head keys aggs)
   pub distincts : GoesByBags distinct_head
   pub joins : (keys : List (ℕ × ℕ)) (left_width right_width : ℕ) (join : JoinKind) → GoesByBags (join_head keys left_width right_width join)
-  pub keyed : (hash : Row → ℕ) (keys : List ℕ) (grid : Grid) (rows : ℕ → ℕ → List Row)
-      → StandsAt (λ row. hash (key_of keys row) % grid.cells) grid rows → MeetsInColumn (λ a b. same_row (key_of keys a) (key_of keys b)) grid rows
-  pub meeting : (meets : Row → Row → Bool) (place : Row → ℕ) (grid : Grid) (rows : ℕ → ℕ → List Row)
-      → ((a b : Row) → meets a b ≡ true → place a ≡ place b) → StandsAt place grid rows → MeetsInColumn meets grid rows
-  pub joined : (hash : Row → ℕ) (keys : List (ℕ × ℕ)) (left right : Grid) (lefts rights : ℕ → ℕ → List Row) → left.cells ≡ right.cells
-      → StandsAt (λ row. hash (key_of (left_columns keys) row) % left.cells) left lefts
-      → StandsAt (λ row. hash (key_of (right_columns keys) row) % right.cells) right rights
-      → MatchesInColumn (matches keys) left lefts right rights
+  pub keyed : (hash : Row → ℕ) (keys : List ℕ) (input : Input)
+      → StandsAt (λ row. hash (key_of keys row) % input.grid.cells) input → MeetsInColumn (λ a b. same_row (key_of keys a) (key_of keys b)) input
+  pub meeting : (meets : Row → Row → Bool) (place : Row → ℕ) (input : Input)
+      → ((a b : Row) → meets a b ≡ true → place a ≡ place b) → StandsAt place input → MeetsInColumn meets input
+  pub joined : (hash : Row → ℕ) (keys : List (ℕ × ℕ)) (left right : Input) → left.grid.cells ≡ right.grid.cells
+      → StandsAt (λ row. hash (key_of (left_columns keys) row) % left.grid.cells) left
+      → StandsAt (λ row. hash (key_of (right_columns keys) row) % right.grid.cells) right
+      → MatchesInColumn (matches keys) left right
 
 same_number : (m n : ℕ) → nat_eq m n ≡ true → m ≡ n
 same_number m n e = grind (arith, nat_tests)
@@ -113,8 +113,8 @@ module _ (nodes : List Node) (hash : Row → ℕ) (cells head : ℕ) (node : Nod
   two_hashed lefts rights (i ∷ j ∷ k ∷ ins) inputs two to_left to_right come = absurd (omega (arith, two))
 
   -- rows that stand by the hash of their key stand so by the grid's own number of columns
-  by_grid : (columns : List ℕ) (input : Input) → IsHashed hash cells columns input → StandsAt (λ row. hash (key_of columns row) % input.grid.cells) input.grid input.rows
-  by_grid columns input hashed = subst (λ (n : ℕ). StandsAt (λ row. hash (key_of columns row) % n) input.grid input.rows) (sym hashed.cells) hashed.stands
+  by_grid : (columns : List ℕ) (input : Input) → IsHashed hash cells columns input → StandsAt (λ row. hash (key_of columns row) % input.grid.cells) input
+  by_grid columns input hashed = subst (λ (n : ℕ). StandsAt (λ row. hash (key_of columns row) % n) input) (sym hashed.cells) hashed.stands
 
   module _ (laws : HeadLaws) (widths : List ℕ) (inputs : List Input) where
     comes : (op : Op) → node.op ≡ op → is_source op ≡ false → AllZip Shipped (vertex_inputs nodes head) inputs → Comes node.inputs inputs
@@ -123,9 +123,9 @@ module _ (nodes : List Node) (hash : Row → ℕ) (cells head : ℕ) (node : Nod
     number : (op : Op) → node.op ≡ op → takes op (length node.inputs) ≡ true
     number op is = sym (ap (λ (o : Op). takes o (length node.inputs)) is) ∙ (good_node nodes head node good at).number
 
-    matched : (keys : List (ℕ × ℕ)) (two : TwoHashed (left_columns keys) (right_columns keys) inputs) → MatchesInColumn (matches keys) two.left.grid two.left.rows two.right.grid two.right.rows
+    matched : (keys : List (ℕ × ℕ)) (two : TwoHashed (left_columns keys) (right_columns keys) inputs) → MatchesInColumn (matches keys) two.left two.right
     matched keys two =
-        laws.joined hash keys two.left.grid two.right.grid two.left.rows two.right.rows (two.hashed_left.cells ∙ sym two.hashed_right.cells)
+        laws.joined hash keys two.left two.right (two.hashed_left.cells ∙ sym two.hashed_right.cells)
         (by_grid (left_columns keys) two.left two.hashed_left) (by_grid (right_columns keys) two.right two.hashed_right)
 
     join_placed : (keys : List (ℕ × ℕ)) (lw rw : ℕ) (join : JoinKind) (two : TwoHashed (left_columns keys) (right_columns keys) inputs) → IsPlaced (join_head keys lw rw join) (two.left ∷ two.right ∷ [])
@@ -146,13 +146,13 @@ module _ (nodes : List Node) (hash : Row → ℕ) (cells head : ℕ) (node : Nod
         let op = Aggregate keys aggs in
         let one = one_hashed (λ input. keys) node.inputs inputs (same_number (length node.inputs) 1 (number op is)) (λ input. ship_is op is refl input 0) (comes op is refl come) in
         subst (IsPlaced (aggregate_head keys aggs)) (sym one.is)
-        (laws.aggregates keys aggs, laws.keyed hash keys one.input.grid one.input.rows (by_grid keys one.input one.hashed))
+        (laws.aggregates keys aggs, laws.keyed hash keys one.input (by_grid keys one.input one.hashed))
     placed Distinct is come =
         let columns : ℕ → List ℕ = λ input. range_with_len 0 (get_or (widths_of nodes) input 0) in
         let one = one_hashed columns node.inputs inputs (same_number (length node.inputs) 1 (number Distinct is)) (λ input. ship_is Distinct is refl input 0) (comes Distinct is refl come) in
         let place : Row → ℕ = λ row. hash (key_of (columns one.from) row) % cells in
         subst (IsPlaced distinct_head) (sym one.is)
-        (laws.distincts, laws.meeting same_row place one.input.grid one.input.rows (λ a b e. ap place (same_row_is a b e)) one.hashed.stands)
+        (laws.distincts, laws.meeting same_row place one.input (λ a b e. ap place (same_row_is a b e)) one.hashed.stands)
     placed (Join join keys) is come =
         let op = Join join keys in
         let two = two_hashed (left_columns keys) (right_columns keys) node.inputs inputs (same_number (length node.inputs) 2 (number op is)) (λ input. ship_is op is refl input 0) (λ input. ship_is op is refl input 1) (comes op is refl come) in

@@ -16,11 +16,11 @@ use Rattle.plan_model.specs.declared.op.Op.{Op}
 use Rattle.plan_model.specs.declared.op.Op.TheVariants.{Source, Filter, Project, Explode, Union, Aggregate, Distinct, Join, Sink}
 use Rattle.plan_model.proofs.Laws.{good_node}
 use Rattle.rect_cover.specs.declared.shape_kind.ShapeKind.{ShapeKind}
-use Rattle.rect_cover.specs.Cells.{Reads, whole}
+use Rattle.rect_cover.specs.Cells.{Reads, Input, whole}
 use Rattle.rect_cover.specs.Chains.{chained}
 use Rattle.rect_cover.specs.Covers.{IsCover}
 use Rattle.rect_cover.specs.Laws.{VertexLaw}
-use Rattle.rect_cover.specs.Vertices.{Input, Link, grids_of, head_rows, plain, linked, readings, wholes}
+use Rattle.rect_cover.specs.Vertices.{Link, grids_of, head_rows, plain, linked, readings, wholes}
 use Rattle.vertex_builder.specs.Chains.{IsChain}
 use Rattle.vertex_builder.specs.Edges.{edges_into}
 use Rattle.vertex_builder.specs.Vertices.{files_input, head_of, last_in, last_of, vertex_input, vertex_inputs, IsVertex}

@@ -9,15 +9,15 @@ use Rattle.plan_model.specs.Plans.{bag_at, bags_of}
 use Rattle.plan_model.specs.declared.node.Node.{Node}
 use Rattle.plan_model.specs.declared.ship.Ship.{Ship}
 use Rattle.plan_model.specs.declared.ship.Ship.TheVariants.{Hash}
+use Rattle.rect_cover.specs.Cells.{Input}
 use Rattle.rect_cover.specs.Heads.{StandsAt}
-use Rattle.rect_cover.specs.Vertices.{Input}
 use Rattle.vertex_builder.specs.declared.vertex.Vertex.{Vertex}
 use Rattle.vertex_builder.specs.declared.vertex_input.VertexInput.{VertexInput}
 
 -- this many columns, and each row in the column of its key's hash modulo their number
 pub record IsHashed (hash : Row → ℕ) (count : ℕ) (columns : List ℕ) (input : Input) : Type 0 where
   pub cells : input.grid.cells ≡ count
-  pub stands : StandsAt (λ row. hash (key_of columns row) % count) input.grid input.rows
+  pub stands : StandsAt (λ row. hash (key_of columns row) % count) input
 
 -- where the ship of an input wants its rows; any function of keys may be the hash
 abbrev pub IsShipped : (Row → ℕ) → ℕ → Ship → Input → Type 0

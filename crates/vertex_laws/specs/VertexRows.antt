@@ -13,7 +13,8 @@ use Rattle.plan_model.specs.declared.op.Op.TheVariants.{Source, Union, Aggregate
 use Rattle.rect_cover.specs.declared.shape.Shape.{Shape}
 use Rattle.rect_cover.specs.declared.shape_kind.ShapeKind.{ShapeKind}
 use Rattle.rect_cover.specs.declared.shape_kind.ShapeKind.TheVariants.{RowWise, Keyed, LeftDriven, RightDriven, Inner, Full}
-use Rattle.rect_cover.specs.Vertices.{Input, grids_of}
+use Rattle.rect_cover.specs.Cells.{Input}
+use Rattle.rect_cover.specs.Vertices.{grids_of}
 use Rattle.vertex_builder.specs.Vertices.{inputs_at, head_of}
 use Rattle.vertex_builder.specs.declared.vertex.Vertex.{Vertex}
 
