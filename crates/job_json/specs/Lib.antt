@@ -1,6 +1,7 @@
 pub mod Faults
 pub mod Jobs
 pub mod Members
+pub mod NodeTexts
 pub mod Nodes
 pub mod Parts
 pub mod Spelling

@@ -113,4 +113,5 @@ node_of k d = do
 -- the nodes, from this number on
 abbrev pub nodes_from : ℕ → List Data → Result (List Node) JobFault
 nodes_from k [] = Ok []
-nodes_from k (d ∷ ds) = node_of k d >>= λ node. nodes_from (suc k) ds >>= λ nodes. Ok (node ∷ nodes)
+nodes_from k (d ∷ ds) =
+    node_of k d >>= λ node. nodes_from (suc k) ds >>= λ nodes. Ok (node ∷ nodes)

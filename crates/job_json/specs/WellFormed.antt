@@ -85,7 +85,8 @@ IsOpForm (Project exprs) inputs =
 IsOpForm (Explode column separator) inputs =
     IsTrue (is_u32 column) × (separator < 128) × HasOneInput inputs
 IsOpForm Union inputs =
-    (LEAST_INPUTS ≤ length inputs) × (length inputs ≤ INPUT_LIMIT) × IsTrue (list_all is_u32 inputs)
+    (LEAST_INPUTS ≤ length inputs) × (length inputs ≤ INPUT_LIMIT)
+    × IsTrue (list_all is_u32 inputs)
 IsOpForm (Aggregate keys aggs) inputs =
     IsShort is_u32 keys × IsShort is_u32_agg aggs × HasOneInput inputs
 IsOpForm Distinct inputs = HasOneInput inputs

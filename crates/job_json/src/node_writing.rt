@@ -93,8 +93,8 @@ fn node_members(alloc: Global, op: &str) -> Result<Members, NoMemory>
 // The members that every node with one input has.
 fn unary_members(alloc: Global, op: &str, inputs: &Columns) -> Result<Members, NoMemory>
     requires { 0 < length inputs.now }
-    ensures { IfOk result (λ members. members_view members.entries
-        ≡ members_from ((codes "input", input_value inputs.now 0) ∷ (codes "op", string op.now) ∷ [])) }
+    ensures { IfOk result (λ members. members_view members.entries ≡ members_from
+        ((codes "input", input_value inputs.now 0) ∷ (codes "op", string op.now) ∷ [])) }
 {
     let mut members = node_members(alloc, op)?;
     put(&mut members, alloc, "input", write_input(inputs, 0))?;

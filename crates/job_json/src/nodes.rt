@@ -4,6 +4,7 @@ ghost use Rattle.std.specs.List.{list_all};
 ghost use Rattle.job_json.specs.WellFormed.{has_utf8_texts_in};
 ghost use Rattle.serde_json.specs.View.{view};
 ghost use Rattle.job_json.specs.Faults.{Gives};
+ghost use Rattle.job_json.specs.NodeTexts.{GivesNode};
 ghost use Rattle.job_json.specs.Nodes.{source_of, filter_of, project_of, explode_of, union_of, aggregate_of, distinct_of, join_of, sink_of, node_by, op_kind_of, node_of, nodes_from};
 
 use crate::aggs::read_aggs;
@@ -22,8 +23,7 @@ use std::alloc::Global;
 
 #[tactic(auto, unfolding(crate::specs::Nodes::source_of))]
 fn read_source(reader: NodeReader, node: &Value) -> Result<Node, JobError>
-    ensures gives { Gives (λ x. x) result (source_of reader.node (view node.now)) }
-    ensures texts { IfOk result (λ node. IsTrue (has_utf8_texts_in node)) }
+    ensures { GivesNode result (source_of reader.node (view node.now)) }
 {
     let table = reader.name(node, "table")?;
     let columns = read_columns(reader, node)?;
@@ -36,8 +36,7 @@ fn read_source(reader: NodeReader, node: &Value) -> Result<Node, JobError>
 
 #[tactic(auto, unfolding(crate::specs::Nodes::filter_of))]
 fn read_filter(reader: NodeReader, node: &Value) -> Result<Node, JobError>
-    ensures gives { Gives (λ x. x) result (filter_of reader.node (view node.now)) }
-    ensures texts { IfOk result (λ node. IsTrue (has_utf8_texts_in node)) }
+    ensures { GivesNode result (filter_of reader.node (view node.now)) }
 {
     let input = reader.number(node, "input")?;
     let test = read_where(reader, node)?;
@@ -51,8 +50,7 @@ fn read_filter(reader: NodeReader, node: &Value) -> Result<Node, JobError>
 
 #[tactic(auto, unfolding(crate::specs::Nodes::project_of))]
 fn read_project(reader: NodeReader, node: &Value) -> Result<Node, JobError>
-    ensures gives { Gives (λ x. x) result (project_of reader.node (view node.now)) }
-    ensures texts { IfOk result (λ node. IsTrue (has_utf8_texts_in node)) }
+    ensures { GivesNode result (project_of reader.node (view node.now)) }
 {
     let input = reader.number(node, "input")?;
     let exprs = read_exprs(reader, node)?;
@@ -66,8 +64,7 @@ fn read_project(reader: NodeReader, node: &Value) -> Result<Node, JobError>
 
 #[tactic(auto, unfolding(crate::specs::Nodes::explode_of))]
 fn read_explode(reader: NodeReader, node: &Value) -> Result<Node, JobError>
-    ensures gives { Gives (λ x. x) result (explode_of reader.node (view node.now)) }
-    ensures texts { IfOk result (λ node. IsTrue (has_utf8_texts_in node)) }
+    ensures { GivesNode result (explode_of reader.node (view node.now)) }
 {
     let input = reader.number(node, "input")?;
     let column = reader.number(node, "column")?;
@@ -82,8 +79,7 @@ fn read_explode(reader: NodeReader, node: &Value) -> Result<Node, JobError>
 
 #[tactic(auto, unfolding(crate::specs::Nodes::union_of))]
 fn read_union(reader: NodeReader, node: &Value) -> Result<Node, JobError>
-    ensures gives { Gives (λ x. x) result (union_of reader.node (view node.now)) }
-    ensures texts { IfOk result (λ node. IsTrue (has_utf8_texts_in node)) }
+    ensures { GivesNode result (union_of reader.node (view node.now)) }
 {
     let inputs = read_inputs(reader, node)?;
     Ok(Node {
@@ -95,8 +91,7 @@ fn read_union(reader: NodeReader, node: &Value) -> Result<Node, JobError>
 
 #[tactic(auto, unfolding(crate::specs::Nodes::aggregate_of))]
 fn read_aggregate(reader: NodeReader, node: &Value) -> Result<Node, JobError>
-    ensures gives { Gives (λ x. x) result (aggregate_of reader.node (view node.now)) }
-    ensures texts { IfOk result (λ node. IsTrue (has_utf8_texts_in node)) }
+    ensures { GivesNode result (aggregate_of reader.node (view node.now)) }
 {
     let input = reader.number(node, "input")?;
     let keys = read_keys(reader, node)?;
@@ -110,8 +105,7 @@ fn read_aggregate(reader: NodeReader, node: &Value) -> Result<Node, JobError>
 
 #[tactic(auto, unfolding(crate::specs::Nodes::distinct_of))]
 fn read_distinct(reader: NodeReader, node: &Value) -> Result<Node, JobError>
-    ensures gives { Gives (λ x. x) result (distinct_of reader.node (view node.now)) }
-    ensures texts { IfOk result (λ node. IsTrue (has_utf8_texts_in node)) }
+    ensures { GivesNode result (distinct_of reader.node (view node.now)) }
 {
     let input = reader.number(node, "input")?;
     Ok(Node {
@@ -123,8 +117,7 @@ fn read_distinct(reader: NodeReader, node: &Value) -> Result<Node, JobError>
 
 #[tactic(auto, unfolding(crate::specs::Nodes::join_of))]
 fn read_join(reader: NodeReader, node: &Value) -> Result<Node, JobError>
-    ensures gives { Gives (λ x. x) result (join_of reader.node (view node.now)) }
-    ensures texts { IfOk result (λ node. IsTrue (has_utf8_texts_in node)) }
+    ensures { GivesNode result (join_of reader.node (view node.now)) }
 {
     let kind = read_join_kind(reader, node)?;
     let left = reader.number(node, "left")?;
@@ -139,8 +132,7 @@ fn read_join(reader: NodeReader, node: &Value) -> Result<Node, JobError>
 
 #[tactic(auto, unfolding(crate::specs::Nodes::sink_of))]
 fn read_sink(reader: NodeReader, node: &Value) -> Result<Node, JobError>
-    ensures gives { Gives (λ x. x) result (sink_of reader.node (view node.now)) }
-    ensures texts { IfOk result (λ node. IsTrue (has_utf8_texts_in node)) }
+    ensures { GivesNode result (sink_of reader.node (view node.now)) }
 {
     let input = reader.number(node, "input")?;
     let name = reader.name(node, "name")?;
@@ -153,8 +145,7 @@ fn read_sink(reader: NodeReader, node: &Value) -> Result<Node, JobError>
 }
 
 fn read_operator(reader: NodeReader, kind: OpKind, node: &Value) -> Result<Node, JobError>
-    ensures gives { Gives (λ x. x) result (node_by kind reader.node (view node.now)) }
-    ensures texts { IfOk result (λ node. IsTrue (has_utf8_texts_in node)) }
+    ensures { GivesNode result (node_by kind reader.node (view node.now)) }
 {
     match kind {
         OpKind::Source => read_source(reader, node),
@@ -198,8 +189,7 @@ fn two_inputs(alloc: Global, left: u32, right: u32) -> Result<Columns, NoMemory>
 /// The node of this number.
 #[tactic(auto, unfolding(crate::specs::Nodes::node_of))]
 pub fn read_node(alloc: Global, number: u32, node: &Value) -> Result<Node, JobError>
-    ensures gives { Gives (λ x. x) result (node_of number (view node.now)) }
-    ensures texts { IfOk result (λ node. IsTrue (has_utf8_texts_in node)) }
+    ensures { GivesNode result (node_of number (view node.now)) }
 {
     let Some(members) = node.as_object() else {
         return Err(JobError::Fault(JobFault {

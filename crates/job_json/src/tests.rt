@@ -1,6 +1,6 @@
-use crate::{JobError, JobFaultKind, print_job, read_job};
+use crate::{JobError, print_job, read_job};
 use row_core::Bytes;
-use std::alloc::Global;
+use std::alloc::{AllocError, Global};
 use std::test::Fail;
 
 const EXAMPLE: &str =
@@ -32,14 +32,13 @@ fn prints_jobs(rt: HostRuntime) -> Result<(), Fail> {
     Ok(())
 }
 
-// Whether the text is a job; `None` where its fault is that it is no JSON.
-fn is_job(alloc: Global, text: &str) -> Result<Option<bool>, JobError> {
+// Whether the text is a job.
+fn is_job(alloc: Global, text: &str) -> Result<bool, AllocError> {
     let bytes = Bytes::from_slice(alloc, text.as_bytes())?;
     match read_job(alloc, &bytes) {
-        Ok(_) => Ok(Some(true)),
-        Err(JobError::Fault(fault)) if fault.kind == JobFaultKind::NotJson => Ok(None),
-        Err(JobError::Fault(_)) => Ok(Some(false)),
-        Err(JobError::NoMemory) => Err(JobError::NoMemory),
+        Ok(_) => Ok(true),
+        Err(JobError::NoMemory) => Err(AllocError),
+        Err(JobError::Fault(_)) => Ok(false),
     }
 }
 
@@ -48,17 +47,8 @@ fn is_job(alloc: Global, text: &str) -> Result<Option<bool>, JobError> {
 #[test]
 fn reads_json(rt: HostRuntime) -> Result<(), Fail> {
     let alloc = rt.alloc();
-    assert_eq!(rt;
-        is_job(alloc, r#"{"job":1,"nodes":[],"job":"a"}"#)?,
-        Some(true)
-    );
-    assert_eq!(rt;
-        is_job(alloc, r#"{"job":"a","nodes":[],"job":1}"#)?,
-        Some(false)
-    );
-    assert_eq!(rt;
-        is_job(alloc, r#"{"job":"a","nodes":[],"zz":1e400}"#)?,
-        None
-    );
+    assert!(rt; is_job(alloc, r#"{"job":1,"nodes":[],"job":"a"}"#)?);
+    assert!(rt; !is_job(alloc, r#"{"job":"a","nodes":[],"job":1}"#)?);
+    assert!(rt; !is_job(alloc, r#"{"job":"a","nodes":[],"zz":1e400}"#)?);
     Ok(())
 }

@@ -23,7 +23,7 @@ is_taken pool id = get_or (worker_of pool id.worker).taken id.slot false
 abbrev pub lowest_free : List WorkerSlots → ℕ → Option SlotId
 lowest_free pool worker =
     option_map (λ slot. record { worker = worker; slot = slot })
-        (position not (worker_of pool worker).taken)
+    (position not (worker_of pool worker).taken)
 
 -- the pool with this slot taken, or free
 abbrev pub with_slot : List WorkerSlots → SlotId → Bool → List WorkerSlots

@@ -21,8 +21,7 @@ impl Model for Slots {
 
     ghost view = { λ s. s.workers.items };
 
-    ghost invariant =
-        { λ s. (s.free ≡ free_slots s.workers.items) × (slots_of s.workers.items < 2 ^ 32) };
+    ghost invariant = { λ s. (s.free ≡ free_slots s.workers.items) × (slots_of s.workers.items < 2 ^ 32) };
 }
 
 impl Slots {
@@ -78,7 +77,7 @@ impl Slots {
         requires { worker < length self.old }
         ensures blocked { let old = worker_of self.old worker in
             self.new ≡ slice_set self.old worker
-                (record old { block_end = max old.block_end until }) }
+            (record old { block_end = max old.block_end until }) }
         ensures others { (id : SlotId) → is_taken self.new id ≡ is_taken self.old id }
     {
         self.workers[worker as usize].block(until);

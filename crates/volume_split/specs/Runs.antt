@@ -6,7 +6,7 @@ abbrev pub runs_from : ℕ → List ℕ → List ℕ → List (List ℕ)
 runs_from limit run [] = run ∷ []
 runs_from limit run (size ∷ sizes) =
     if nat_le (sum run + size) limit then runs_from limit (run ++ size ∷ []) sizes
-        else run ∷ runs_from limit (size ∷ []) sizes
+    else run ∷ runs_from limit (size ∷ []) sizes
 
 -- the greedy runs of a list of sizes
 abbrev pub greedy_runs : ℕ → List ℕ → List (List ℕ)
