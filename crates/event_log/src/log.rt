@@ -1,6 +1,6 @@
 ghost use Rattle.std.specs.Prelude.{◌≡◌, ◌⊎◌, ◌+◌, ◌<◌, ◌≤◌, length, None, IsTrue, OnOk, OnErr, IsErrOf, is_ok, if◌then◌else◌};
 ghost use Rattle.estate.specs.Changes.{Leads, LogRose};
-ghost use Rattle.event_log.specs.Blocks.{blocks_of, with_block, KeepsBlocks, AddsBlock, HasBlocks};
+ghost use Rattle.event_log.specs.Blocks.{KeepsBlocks, AddsBlock, LandsBehind};
 
 use crate::LogError;
 use crate::write::{staged, write_synced};
@@ -41,9 +41,8 @@ impl Log {
             ⊎ Leads KeepsBlocks (E.world estate.old) (E.world estate.new)) }
 
         // once it is added, each image has it
-        ensures lands { OnOk result (HasBlocks
-            (with_block body.now (blocks_of (E.world estate.old).holding.log))
-            (E.world estate.new)) }
+        ensures lands { OnOk result
+            (LandsBehind body.now (E.world estate.old) (E.world estate.new)) }
 
         ensures started { IsErrOf result LogError.Fault
             ⊎ IsStarted self.new.end (E.world estate.new) }
