@@ -62,6 +62,36 @@ reads_once log a b (inr (front, whole, closed)) (inl fresh) =
 reads_once log a b (inr (front, whole, closed)) (inr (front', whole', closed')) =
     front_once a b front front' closed.0 closed'.0 whole whole' (sym closed.1 ∙ closed'.1)
 
+-- blocks up to a closed gate are not blocks up to a broken one
+never_both : (a b : List (List ℕ)) (f g x behind : List ℕ) (gate : ℕ) → AreBlocks a f → AreBlocks b g → gate ≢ 0 → length behind ≤ 8 + length_at behind → f ++ 0 ∷ x ≡ g ++ gate ∷ behind → ⊥
+never_both [] [] f g x behind gate none none' is_open short is =
+    let gates : 0 ∷ x ≡ gate ∷ behind = sym (ap (λ (l : List ℕ). l ++ 0 ∷ x) none) ∙ is ∙ ap (λ (l : List ℕ). l ++ gate ∷ behind) none' in
+    is_open (sym (ap (λ (l : List ℕ). get_or l 0 0) gates))
+never_both [] (body ∷ b) f g x behind gate none (block, rest, first, begins, more) is_open short is =
+    let gates : 0 ∷ x ≡ first.gate ∷ (first.head ++ (body ++ (rest ++ gate ∷ behind))) = sym (ap (λ (l : List ℕ). l ++ 0 ∷ x) none) ∙ is ∙ opened body block rest g (gate ∷ behind) first begins in
+    first.is_open (sym (ap (λ (l : List ℕ). get_or l 0 0) gates))
+never_both (body ∷ a) [] f g x behind gate (block, rest, first, begins, more) none is_open short is =
+    let both : first.gate ∷ (first.head ++ (body ++ (rest ++ 0 ∷ x))) ≡ gate ∷ behind =
+    sym (opened body block rest f (0 ∷ x) first begins) ∙ is ∙ ap (λ (l : List ℕ). l ++ gate ∷ behind) none in
+    let tail : first.head ++ (body ++ (rest ++ 0 ∷ x)) ≡ behind = ap (λ (l : List ℕ). drop 1 l) both in
+    let says : length_at behind ≡ length body =
+    ap length_at (sym tail) ∙ ap (λ (l : List ℕ). from_be_bytes w64 l) (take_at first.head (body ++ (rest ++ 0 ∷ x)) 8 first.size) ∙ first.says in
+    absurd (omega (arith, short, says, ap length tail, first.size, length-append first.head (body ++ (rest ++ 0 ∷ x)), length-append body (rest ++ 0 ∷ x), length-append rest (0 ∷ x)))
+never_both (body ∷ a) (body' ∷ b) f g x behind gate (block, rest, first, begins, more) (block', rest', first', begins', more') is_open short is =
+    let both : first.gate ∷ (first.head ++ (body ++ (rest ++ 0 ∷ x))) ≡ first'.gate ∷ (first'.head ++ (body' ++ (rest' ++ gate ∷ behind))) =
+    sym (opened body block rest f (0 ∷ x) first begins) ∙ is ∙ opened body' block' rest' g (gate ∷ behind) first' begins' in
+    let tail : first.head ++ (body ++ (rest ++ 0 ∷ x)) ≡ first'.head ++ (body' ++ (rest' ++ gate ∷ behind)) = ap (λ (l : List ℕ). drop 1 l) both in
+    let heads = same_front first.head first'.head _ _ (first.size ∙ sym first'.size) tail in
+    let sizes : length body ≡ length body' = sym first.says ∙ ap (λ (l : List ℕ). from_be_bytes w64 l) heads.0 ∙ first'.says in
+    let bodies = same_front body body' _ _ sizes heads.1 in
+    never_both a b rest rest' x behind gate more more' is_open short bodies.1
+
+-- a log that is read is not broken
+pub read_unbroken : (log : List ℕ) (a b : List (List ℕ)) → Reads log a → ¬ (Breaks log b)
+read_unbroken log a b (inl fresh) breaks = absurd (omega (arith, fresh.0, breaks.long))
+read_unbroken log a b (inr (front, whole, closed)) breaks =
+    never_both a b front breaks.front closed.0 breaks.behind breaks.gate whole breaks.whole breaks.is_open breaks.short (sym closed.1 ∙ breaks.is)
+
 -- two logs of the same blocks
 pub same_reads : (old new : List ℕ) (bodies : List (List ℕ)) → Reads old bodies → Reads new bodies → SameBlocks old new
 same_reads old new bodies was is = λ others. (

@@ -1,5 +1,6 @@
 ghost use Rattle.std.specs.Prelude.{◌≡◌, ◌⊎◌, ◌+◌, ◌<◌, ◌≤◌, length, None, IsTrue, OnOk, OnErr, IsErrOf, is_ok, if◌then◌else◌};
 ghost use Rattle.estate.specs.Changes.{Leads, LogRose};
+ghost use Rattle.event_log.specs.Limit.{LiesWithin};
 ghost use Rattle.event_log.specs.Blocks.{KeepsBlocks, AddsBlock, LandsBehind};
 
 use crate::LogError;
@@ -16,7 +17,7 @@ pub const LOG_LIMIT: u64 = 268_435_456;
 pub struct Log {
     /// The place of the closed gate.
     pub end: u64,
-    ghost within: { end < 268435456 },
+    ghost within: { LiesWithin end },
 }
 
 impl Log {

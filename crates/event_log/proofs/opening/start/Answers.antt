@@ -6,6 +6,7 @@ use Rattle.event_log.specs.Blocks.{Reads}
 use Rattle.event_log.specs.Answers.{AnswersBytes, log_error}
 use Rattle.event_log.specs.declared.log_error.LogError.{LogError}
 use Rattle.event_log.specs.declared.log_error.LogError.TheVariants.{Fault}
+use Rattle.event_log.specs.declared.log.TheConstants.{LOG_LIMIT}
 use Rattle.event_log.proofs.Reading.{read_blocks, read_within}
 use Rattle.event_log.proofs.Starts.{adds_nothing, stays_fresh, then_fresh, synced_stays, read_started, fresh_of, bytes_of, limit_of, refused_log}
 use Rattle.event_log.proofs.StayingStarted.{started_lands}
@@ -69,7 +70,7 @@ pub returns-in-None-clause-answer : goal.returns-in-None-clause-answer
 returns-in-None-clause-answer g c told =
     let kept = (c.log_sync.ensures.leads.holding told).log in
     let short = subst (λ (l : List ℕ). length l ≤ 1) kept (fresh_of _ _ c.in-None.is (c.in_ok-read_log.ensures.bytes (told_on _ _ c.log_sync.ensures.leads.time told))) in
-    let most : length (g.E.Estate.world c.args.estate.now).holding.log ≤ 268435456 = omega (arith, short) in
+    let most : length (g.E.Estate.world c.args.estate.now).holding.log ≤ LOG_LIMIT = omega (arith, short) in
     (inl (short, c.new.ensures), most)
 
 pub returns-in-Ok-clause-adds_nothing : goal.returns-in-Ok-clause-adds_nothing

@@ -1,5 +1,6 @@
 use Rattle.std.proofs.Common.{inl, ℕ, ◌≤◌, List, length, ◌∙◌, subst, arith}
 use Rattle.event_log.specs.Blocks.{Reads}
+use Rattle.event_log.specs.declared.log.TheConstants.{LOG_LIMIT}
 use Rattle.event_log.proofs.Reading.{read_blocks}
 use Rattle.event_log.proofs.Starts.{fresh_of, bytes_of, refused_log}
 use Rattle.event_log.proofs.opening.view.Goals as goal
@@ -7,7 +8,7 @@ use Rattle.event_log.proofs.opening.view.Goals as goal
 pub returns-in-None-clause-answer : goal.returns-in-None-clause-answer
 returns-in-None-clause-answer g c told =
     let short = fresh_of _ _ c.in-None.is (c.in_ok-read_log.ensures.bytes told) in
-    let most : length (g.E.Estate.world c.args.estate.now).holding.log ≤ 268435456 = omega (arith, short) in
+    let most : length (g.E.Estate.world c.args.estate.now).holding.log ≤ LOG_LIMIT = omega (arith, short) in
     (inl (short, c.new.ensures), most)
 
 pub returns-in-Ok-clause-answer : goal.returns-in-Ok-clause-answer
