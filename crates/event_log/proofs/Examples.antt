@@ -1,27 +1,31 @@
 -- What some logs say.
-use Rattle.std.proofs.Common.{◌≡◌, [], ◌∷◌, Some, None, false, refl}
-use Rattle.event_log.specs.Blocks.{reading_of, read_after, blocks_of}
+use Rattle.std.proofs.Common.{List, ℕ, [], ◌∷◌, inl, inr, refl, arith}
+use Rattle.event_log.specs.Blocks.{Reads, Breaks}
 
 -- a block whose gate is not open yet does not count
-gate_closed : blocks_of (0 ∷ 0 ∷ 0 ∷ 0 ∷ 0 ∷ 0 ∷ 0 ∷ 0 ∷ 5 ∷ 1 ∷ 0 ∷ 0 ∷ 0 ∷ 1 ∷ 0 ∷ []) ≡ Some []
-unfolding blocks_of reading_of read_after
-gate_closed = refl
+gate_closed : Reads (0 ∷ 0 ∷ 0 ∷ 0 ∷ 0 ∷ 0 ∷ 0 ∷ 0 ∷ 5 ∷ 1 ∷ 0 ∷ 0 ∷ 0 ∷ 1 ∷ 0 ∷ []) []
+gate_closed = inr ([], refl, (0 ∷ 0 ∷ 0 ∷ 0 ∷ 0 ∷ 0 ∷ 0 ∷ 5 ∷ 1 ∷ 0 ∷ 0 ∷ 0 ∷ 1 ∷ 0 ∷ [], refl))
 
 -- any byte but 0 opens it
-gate_open : blocks_of (77 ∷ 0 ∷ 0 ∷ 0 ∷ 0 ∷ 0 ∷ 0 ∷ 0 ∷ 5 ∷ 1 ∷ 0 ∷ 0 ∷ 0 ∷ 1 ∷ 0 ∷ []) ≡ Some ((1 ∷ 0 ∷ 0 ∷ 0 ∷ 1 ∷ []) ∷ [])
-unfolding blocks_of reading_of read_after
-gate_open = refl
+gate_open : Reads (77 ∷ 0 ∷ 0 ∷ 0 ∷ 0 ∷ 0 ∷ 0 ∷ 0 ∷ 5 ∷ 1 ∷ 0 ∷ 0 ∷ 0 ∷ 1 ∷ 0 ∷ []) ((1 ∷ 0 ∷ 0 ∷ 0 ∷ 1 ∷ []) ∷ [])
+gate_open =
+    let block : List ℕ = 77 ∷ 0 ∷ 0 ∷ 0 ∷ 0 ∷ 0 ∷ 0 ∷ 0 ∷ 5 ∷ 1 ∷ 0 ∷ 0 ∷ 0 ∷ 1 ∷ [] in
+    inr (block, (block, [], record { gate = 77; head = 0 ∷ 0 ∷ 0 ∷ 0 ∷ 0 ∷ 0 ∷ 0 ∷ 5 ∷ []; is_open = omega arith; size = refl; says = refl; is = refl }, refl, refl), ([], refl))
 
 -- a log of one byte is fresh, whatever the byte
-one_byte : blocks_of (9 ∷ []) ≡ Some []
-unfolding blocks_of reading_of
-one_byte = refl
+one_byte : Reads (9 ∷ []) []
+one_byte = inl (omega arith, refl)
 
 -- the second block, and the gate behind it, do not lie within the log
-second_broken : reading_of (1 ∷ 0 ∷ 0 ∷ 0 ∷ 0 ∷ 0 ∷ 0 ∷ 0 ∷ 1 ∷ 9 ∷ 1 ∷ 0 ∷ 0 ∷ 0 ∷ 0 ∷ 0 ∷ 0 ∷ 0 ∷ 1 ∷ 8 ∷ []) ≡ record { bodies = (9 ∷ []) ∷ []; closed = false }
-unfolding reading_of read_after
-second_broken = refl
-
-none_of_broken : blocks_of (1 ∷ 0 ∷ 0 ∷ 0 ∷ 0 ∷ 0 ∷ 0 ∷ 0 ∷ 5 ∷ []) ≡ None
-unfolding blocks_of reading_of read_after
-none_of_broken = refl
+second_broken : Breaks (1 ∷ 0 ∷ 0 ∷ 0 ∷ 0 ∷ 0 ∷ 0 ∷ 0 ∷ 1 ∷ 9 ∷ 1 ∷ 0 ∷ 0 ∷ 0 ∷ 0 ∷ 0 ∷ 0 ∷ 0 ∷ 1 ∷ 8 ∷ []) ((9 ∷ []) ∷ [])
+second_broken =
+    let block : List ℕ = 1 ∷ 0 ∷ 0 ∷ 0 ∷ 0 ∷ 0 ∷ 0 ∷ 0 ∷ 1 ∷ 9 ∷ [] in record {
+      long = omega arith;
+      front = block;
+      gate = 1;
+      behind = 0 ∷ 0 ∷ 0 ∷ 0 ∷ 0 ∷ 0 ∷ 0 ∷ 1 ∷ 8 ∷ [];
+      whole = (block, [], record { gate = 1; head = 0 ∷ 0 ∷ 0 ∷ 0 ∷ 0 ∷ 0 ∷ 0 ∷ 1 ∷ []; is_open = omega arith; size = refl; says = refl; is = refl }, refl, refl);
+      is_open = omega arith;
+      is = refl;
+      short = omega arith;
+    }

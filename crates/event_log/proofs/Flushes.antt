@@ -4,15 +4,15 @@ use Rattle.estate.specs.Holding.{Holding}
 use Rattle.estate.specs.World.{World, IsWorld}
 use Rattle.estate.specs.Changes.{Torn, Holds, Step, Stays, Leads}
 use Rattle.estate.proofs.Laws.{leads_on, leads_by, now_since, step_by, step_both, told_on}
-use Rattle.event_log.specs.Blocks.{blocks_of, frame, with_block, SameBlocks, MayGainBlock}
-use Rattle.event_log.specs.Started.{IsFront, IsClosedBehind, IsStarted}
-use Rattle.event_log.proofs.Reading.{blocks_of-closed, blocks_of-gate, open_gate, front_push, length-frame}
+use Rattle.event_log.specs.Blocks.{AreBlocks, IsClosedBehind, frame, SameBlocks, MayGainBlock, LandsBehind}
+use Rattle.event_log.specs.Started.{IsStarted}
+use Rattle.event_log.proofs.Reading.{same_reads, gains_reads, closed_reads, gate_reads, open_gate, front_push, length-frame}
 use Rattle.event_log.proofs.Writing.{torn_behind, written_behind, torn_gate, written_gate}
 
 -- two logs that are closed behind one front have the same blocks
-same_blocks : (front : List ℕ) (bodies : List (List ℕ)) → IsFront front bodies → (old new : List ℕ) → IsClosedBehind front old → IsClosedBehind front new → SameBlocks old new
+same_blocks : (front : List ℕ) (bodies : List (List ℕ)) → AreBlocks bodies front → (old new : List ℕ) → IsClosedBehind front old → IsClosedBehind front new → SameBlocks old new
 same_blocks front bodies whole old new was is =
-    ap blocks_of is.1 ∙ blocks_of-closed front bodies whole is.0 ∙ sym (ap blocks_of was.1 ∙ blocks_of-closed front bodies whole was.0)
+    same_reads old new bodies (closed_reads front bodies whole old was) (closed_reads front bodies whole new is)
 
 module _ (end : ℕ) (a b : World) (lawful_a : IsWorld a) (lawful_b : IsWorld b) (started : IsStarted end a) where
   -- a write behind the closed gate leaves the blocks
@@ -68,18 +68,18 @@ module _ (end : ℕ) (body : List ℕ) (a b c : World) (lawful_a : IsWorld a) (l
       let was = s.images d from in
       let here = behind_front told e middle in
       let is = torn_gate s.front end s.size 0 (frame body ++ 0 ∷ here.0) h.log (subst (λ (l : List ℕ). Torn end 1 l h.log) here.1 torn.log) in
-      let before : blocks_of d.log ≡ Some s.bodies = ap blocks_of was.1 ∙ blocks_of-closed s.front s.bodies s.whole was.0 in
+      let before = closed_reads s.front s.bodies s.whole d.log was in
       step_both SameBlocks (Torn end 1) (MayGainBlock body) d e h same torn
       (⊎_elim
-      (λ shut. inl (ap blocks_of is.1 ∙ shut ∙ sym before))
-      (λ is_open. inr (ap blocks_of is.1 ∙ is_open ∙ ap (with_block body) (sym before)))
-      (blocks_of-gate s.front s.bodies s.whole is.0 body here.0 fits)))
+      (λ shut. inl (same_reads d.log h.log s.bodies before shut))
+      (λ is_open. inr (gains_reads d.log h.log s.bodies body before is_open))
+      (gate_reads s.front s.bodies s.whole is.0 body here.0 h.log fits is.1)))
 
   -- where it was not written, the blocks are left
   pub gate_stays : Leads Stays b c → Leads (Step SameBlocks None None) a c
   gate_stays stays =
       leads_on a b c lawful_a lawful_b lawful_c kept stays (λ d h from same. same)
-      (λ d e h from middle same stay. step_both SameBlocks (λ old new. new ≡ old) SameBlocks d e h same stay (ap blocks_of stay.log ∙ same.log))
+      (λ d e h from middle same stay. step_both SameBlocks (λ old new. new ≡ old) SameBlocks d e h same stay (subst (λ (l : List ℕ). SameBlocks d.log l) (sym stay.log) same.log))
 
   -- where it is on the disk, each image has the block
   module _ (opened : IsTrue b.told → (image : Holding) → c.images c.now image → Holds b.holding.log end (1 ∷ []) image.log) (gate : Leads (Step (Torn end 1) None None) b c) where
@@ -93,14 +93,14 @@ module _ (end : ℕ) (body : List ℕ) (a b c : World) (lawful_a : IsWorld a) (l
     told_at : IsTrue c.told → IsTrue a.told
     told_at told = subst (λ t. IsTrue t) (gate.time.told ∙ write.time.told) told
 
-    pub block_lands : (image : Holding) → c.images c.now image → blocks_of image.log ≡ with_block body (blocks_of a.holding.log)
-    block_lands image here =
+    pub block_lands : LandsBehind body a c
+    block_lands bodies read image here =
         let told = told_at (lawful_c.tells c.now image here) in
         let s = started told in
         let was = s.images a.holding (lawful_a.own told) in
         let is = open_front told image here in
-        ap blocks_of is.1 ∙ open_gate s.front s.bodies s.whole 1 body is.0 (omega arith) fits
-        ∙ ap (with_block body) (sym (ap blocks_of was.1 ∙ blocks_of-closed s.front s.bodies s.whole was.0))
+        gains_reads a.holding.log image.log s.bodies body (closed_reads s.front s.bodies s.whole a.holding.log was)
+        (open_gate s.front s.bodies s.whole 1 body is.0 image.log (omega arith) fits is.1) bodies read
 
     pub block_started : (later : ℕ) → later ≡ end + 9 + length body → IsStarted later c
     block_started later is told_c =

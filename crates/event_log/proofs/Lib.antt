@@ -1,5 +1,6 @@
 mod Examples
 mod Flushes
+pub mod Laws
 mod Reading
 mod Starts
 mod StayingStarted

@@ -1,20 +1,20 @@
 -- What a crash may leave while a log is started.
-use Rattle.std.proofs.Common.{◌≡◌, inl, inr, ℕ, zero, ◌+◌, ◌<◌, ◌≤◌, List, [], ◌∷◌, length, drop, Option, Some, None, IfSome, Ok, Err, IsTrue, refl, sym, ◌∙◌, ap, subst, arith}
+use Rattle.std.proofs.Common.{◌≡◌, inl, inr, ⊎_elim, ℕ, ◌+◌, ◌<◌, ◌≤◌, List, [], ◌∷◌, length, drop, Option, Some, None, IfSome, Ok, Err, IsTrue, refl, sym, ◌∙◌, ap, subst, arith}
 use Rattle.estate.specs.Holding.{Holding}
 use Rattle.estate.specs.World.{World, IsWorld, IsDurable}
 use Rattle.estate.specs.Changes.{Torn, Holds, Step, Stays, Leads}
 use Rattle.estate.proofs.Laws.{leads_after, leads_by, leads_more, now_since, step_by}
-use Rattle.event_log.specs.Blocks.{blocks_of, read_after, SameBlocks}
+use Rattle.event_log.specs.Blocks.{Breaks, SameBlocks}
 use Rattle.event_log.specs.Answers.{AnswersParse, WhyUnread, AnswersBytes}
 use Rattle.event_log.specs.declared.log.TheConstants.{LOG_LIMIT}
 use Rattle.event_log.specs.declared.log_error.LogError.{LogError}
 use Rattle.event_log.specs.declared.log_error.LogError.TheVariants.{Fault, TooLarge, BadBlock, NoMemory}
 use Rattle.event_log.specs.Started.{ClosesAt, IsRead, StaysFresh}
-use Rattle.event_log.proofs.Reading.{fresh_blocks, read_none, two_bytes}
+use Rattle.event_log.proofs.Reading.{fresh_blocks, same_reads}
 
 fresh_same : (old new : List ℕ) → StaysFresh old new → SameBlocks old new
-fresh_same old new (inl is) = ap blocks_of is
-fresh_same old new (inr short) = fresh_blocks new short.1 ∙ sym (fresh_blocks old short.0)
+fresh_same old new (inl is) = subst (λ (l : List ℕ). SameBlocks old l) (sym is) (λ bodies. (λ read. read, λ read. read))
+fresh_same old new (inr short) = same_reads old new [] (fresh_blocks old short.0) (fresh_blocks new short.1)
 
 -- a fresh log that stays fresh gains no block
 pub adds_nothing : (a b : World) → IsWorld a → Leads (Step StaysFresh None None) a b → Leads (Step SameBlocks None None) a b
@@ -52,7 +52,7 @@ fresh_started a b written = record {
   front = [];
   bodies = [];
   size = refl;
-  whole = read_none;
+  whole = refl;
   images = λ image here. (drop (0 + 1) a.holding.log, written image here);
 }
 
@@ -60,7 +60,9 @@ fresh_started a b written = record {
 pub refused_log : (log bytes : List ℕ) (error : LogError) → bytes ≡ log → 1 < length log → length log ≤ LOG_LIMIT → AnswersParse bytes (Err error) → WhyUnread log error
 refused_log log bytes Fault is long most parsed = tt
 refused_log log bytes (TooLarge asked) is long most parsed = absurd parsed
-refused_log log bytes (BadBlock block before) is long most parsed = (two_bytes log long ∙ ap (read_after zero) (sym is) ∙ parsed.0, parsed.1, most)
+refused_log log bytes (BadBlock block before) is long most parsed =
+    let broken = ⊎_elim (λ short. absurd (omega (arith, ap length is, long, short))) (λ breaks. subst (λ (l : List ℕ). Breaks l before) is breaks) parsed.0 in
+    (broken, parsed.1, most)
 refused_log log bytes NoMemory is long most parsed = tt
 
 -- nothing was read of a fresh log

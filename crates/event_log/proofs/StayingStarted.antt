@@ -1,13 +1,13 @@
 -- A log that was started stays so while other parts of its estate are called.
-use Rattle.std.proofs.Common.{◌≡◌, ℕ, List, Option, Some, None, IsTrue, ◌∙◌, sym, ap, subst}
+use Rattle.std.proofs.Common.{ℕ, List, Option, None, IsTrue, ◌∙◌, subst}
 use Rattle.estate.specs.Holding.{Holding, StoredPart}
 use Rattle.estate.specs.declared.commit.Commit.{Commit}
 use Rattle.estate.specs.World.{World, IsWorld}
 use Rattle.estate.specs.Changes.{Same, Step, Leads}
 use Rattle.estate.proofs.Laws.{now_since}
-use Rattle.event_log.specs.Blocks.{blocks_of, SameBlocks}
+use Rattle.event_log.specs.Blocks.{Reads, SameBlocks, HasBlocks}
 use Rattle.event_log.specs.Started.{IsStarted}
-use Rattle.event_log.proofs.Reading.{blocks_of-closed}
+use Rattle.event_log.proofs.Reading.{reads_once, closed_reads}
 
 -- after a call that leaves the log, as those of the shelf and of the sink do
 pub same_started : (end : ℕ) (part : Option StoredPart) (commit : Option Commit) (a b : World) → IsWorld b → Leads (Step Same part commit) a b → IsStarted end a → IsStarted end b
@@ -23,18 +23,12 @@ same_started end part commit a b lawful_b same started told =
           (was.0, (from.2).log ∙ was.1);
     }
 
--- what is started has the same blocks in each image
-pub started_same : (end : ℕ) (world : World) → IsWorld world → IsStarted end world → (image : Holding) → world.images world.now image → blocks_of image.log ≡ blocks_of world.holding.log
-started_same end world lawful started image here =
-    let told = lawful.tells world.now image here in
-    let s = started told in
-    let is = s.images image here in
-    let own = s.images world.holding (lawful.own told) in
-    ap blocks_of is.1 ∙ blocks_of-closed s.front s.bodies s.whole is.0 ∙ sym (ap blocks_of own.1 ∙ blocks_of-closed s.front s.bodies s.whole own.0)
-
--- where the blocks were told at the entry and none was added, each image has them
-pub started_lands : (end : ℕ) (bodies : List (List ℕ)) (a b : World) → IsWorld b → Leads (Step SameBlocks None None) a b → (IsTrue a.told → blocks_of a.holding.log ≡ Some bodies) → IsStarted end b
-    → (image : Holding) → b.images b.now image → blocks_of image.log ≡ Some bodies
+-- where the blocks were read at the entry and none was added, each image has them
+pub started_lands : (end : ℕ) (bodies : List (List ℕ)) (a b : World) → IsWorld b → Leads (Step SameBlocks None None) a b → (IsTrue a.told → Reads a.holding.log bodies) → IsStarted end b → HasBlocks bodies b
 started_lands end bodies a b lawful_b leads answer started image here =
-    let told = subst (λ t. IsTrue t) leads.time.told (lawful_b.tells b.now image here) in
-    started_same end b lawful_b started image here ∙ (leads.holding told).log ∙ answer told
+    let told_b = lawful_b.tells b.now image here in
+    let told = subst (λ t. IsTrue t) leads.time.told told_b in
+    let s = started told_b in
+    let own = closed_reads s.front s.bodies s.whole b.holding.log (s.images b.holding (lawful_b.own told_b)) in
+    let same = reads_once b.holding.log s.bodies bodies own (((leads.holding told).log bodies).0 (answer told)) in
+    subst (λ (l : List (List ℕ)). Reads image.log l) same (closed_reads s.front s.bodies s.whole image.log (s.images image here))

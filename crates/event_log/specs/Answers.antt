@@ -1,9 +1,9 @@
 -- What the answers of the log say.
-use Rattle.std.specs.Prelude.{◌≡◌, ◌⊎◌, ⊤, ℕ, ◌<◌, ◌≤◌, false, List, length, Option, Some, None, Result, Ok, Err, IsErrOf}
+use Rattle.std.specs.Prelude.{◌≡◌, ◌⊎◌, ⊤, ℕ, ◌<◌, ◌≤◌, List, length, Option, Some, None, Result, Ok, Err, IsErrOf}
 use Rattle.estate.specs.declared.estate_error.EstateError.{EstateError}
 use Rattle.estate.specs.declared.estate_error.EstateError.TheVariants as estate
 use Rattle.estate.specs.World.{World}
-use Rattle.event_log.specs.Blocks.{reading_of, read_after, blocks_of}
+use Rattle.event_log.specs.Blocks.{Reads, Breaks}
 use Rattle.event_log.specs.Started.{IsRead}
 use Rattle.event_log.specs.declared.log.TheConstants.{LOG_LIMIT}
 use Rattle.event_log.specs.declared.log_error.LogError.{LogError}
@@ -34,13 +34,12 @@ abbrev pub WhyUnread : List ℕ → LogError → Type 0
 WhyUnread log Fault = ⊤
 WhyUnread log (TooLarge asked) = (asked ≡ length log) × (LOG_LIMIT < length log)
 WhyUnread log (BadBlock block before) =
-    (reading_of log ≡ record { bodies = before; closed = false }) × (block ≡ length before)
-    × (length log ≤ LOG_LIMIT)
+    Breaks log before × (block ≡ length before) × (length log ≤ LOG_LIMIT)
 WhyUnread log NoMemory = ⊤
 
 -- the answer to a reading of a log: its blocks, or why it is not read
 abbrev pub AnswersLog : {T : Type 0} → (T → List (List ℕ)) → List ℕ → Result T LogError → Type 0
-AnswersLog blocks log (Ok x) = (blocks_of log ≡ Some (blocks x)) × (length log ≤ LOG_LIMIT)
+AnswersLog blocks log (Ok x) = Reads log (blocks x) × (length log ≤ LOG_LIMIT)
 AnswersLog blocks log (Err error) = WhyUnread log error
 
 -- the answer to a reading of bytes from a first gate on: the blocks and the place of the closed
@@ -50,7 +49,7 @@ AnswersParse log (Ok read) = IsRead log read.0 read.1
 AnswersParse log (Err Fault) = ⊥
 AnswersParse log (Err (TooLarge asked)) = ⊥
 AnswersParse log (Err (BadBlock block before)) =
-    (read_after 0 log ≡ record { bodies = before; closed = false }) × (block ≡ length before)
+    ((length log ≤ 1) ⊎ Breaks log before) × (block ≡ length before)
 AnswersParse log (Err NoMemory) = ⊤
 
 -- the answer to a reading of a log's bytes, of which a fresh log tells nothing

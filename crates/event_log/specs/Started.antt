@@ -1,24 +1,15 @@
 -- A log that is ready for its next block.
-use Rattle.std.specs.Prelude.{◌≡◌, ◌⊎◌, ℕ, zero, ◌≤◌, None, IsTrue, List, ◌∷◌, ◌++◌, length}
+use Rattle.std.specs.Prelude.{◌≡◌, ◌⊎◌, ℕ, ◌≤◌, None, IsTrue, List, length}
 use Rattle.estate.specs.Holding.{Holding}
 use Rattle.estate.specs.World.{World}
 use Rattle.estate.specs.Changes.{Step, Holds}
-use Rattle.event_log.specs.Blocks.{after_blocks, blocks_size, read_after}
-
--- this front of a log is whole blocks of these bodies, whatever gate follows
-pub record IsFront (front : List ℕ) (bodies : List (List ℕ)) : Type 0 where
-  pub reads : (gate : ℕ) (rest : List ℕ) →
-      read_after zero (front ++ gate ∷ rest) ≡ after_blocks bodies (read_after zero (gate ∷ rest))
-
--- a closed gate stands behind the front
-abbrev pub IsClosedBehind : List ℕ → List ℕ → Type 0
-IsClosedBehind front log = (behind : List ℕ) × (log ≡ front ++ 0 ∷ behind)
+use Rattle.event_log.specs.Blocks.{AreBlocks, IsClosedBehind, blocks_size}
 
 -- the log is whole blocks of these bodies, and a closed gate at this place
 pub record IsRead (log : List ℕ) (bodies : List (List ℕ)) (end : ℕ) : Type 0 where
   pub front : List ℕ
   pub size : length front ≡ end
-  pub whole : IsFront front bodies
+  pub whole : AreBlocks bodies front
   pub closed : IsClosedBehind front log
   pub takes : end ≡ blocks_size bodies
 
@@ -27,7 +18,7 @@ pub record ClosesAt (end : ℕ) (world : World) : Type 0 where
   pub front : List ℕ
   pub bodies : List (List ℕ)
   pub size : length front ≡ end
-  pub whole : IsFront front bodies
+  pub whole : AreBlocks bodies front
   pub images : (image : Holding) → world.images world.now image → IsClosedBehind front image.log
 
 -- a log that was started, with its closed gate at this place, where the estate tells what it holds

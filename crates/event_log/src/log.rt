@@ -1,6 +1,7 @@
 ghost use Rattle.std.specs.Prelude.{◌≡◌, ◌⊎◌, ◌+◌, ◌<◌, ◌≤◌, length, None, IsTrue, OnOk, OnErr, IsErrOf, is_ok, if◌then◌else◌};
 ghost use Rattle.estate.specs.Changes.{Leads, LogRose};
-ghost use Rattle.event_log.specs.Blocks.{blocks_of, with_block, KeepsBlocks, AddsBlock, HasBlocks};
+ghost use Rattle.event_log.specs.Limit.{LiesWithin};
+ghost use Rattle.event_log.specs.Blocks.{KeepsBlocks, AddsBlock, LandsBehind};
 
 use crate::LogError;
 use crate::write::{staged, write_synced};
@@ -16,7 +17,7 @@ pub const LOG_LIMIT: u64 = 268_435_456;
 pub struct Log {
     /// The place of the closed gate.
     pub end: u64,
-    ghost within: { end < 268435456 },
+    ghost within: { LiesWithin end },
 }
 
 impl Log {
@@ -41,9 +42,8 @@ impl Log {
             ⊎ Leads KeepsBlocks (E.world estate.old) (E.world estate.new)) }
 
         // once it is added, each image has it
-        ensures lands { OnOk result (HasBlocks
-            (with_block body.now (blocks_of (E.world estate.old).holding.log))
-            (E.world estate.new)) }
+        ensures lands { OnOk result
+            (LandsBehind body.now (E.world estate.old) (E.world estate.new)) }
 
         ensures started { IsErrOf result LogError.Fault
             ⊎ IsStarted self.new.end (E.world estate.new) }

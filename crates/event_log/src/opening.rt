@@ -47,7 +47,7 @@ pub fn start<E: Estate>(alloc: Global, estate: &mut E) -> Result<(Log, Blocks), 
     ensures end { IfOk result (λ started. started.0.end ≡ blocks_size started.1) }
 
     // once it is started, each image has the blocks that are answered
-    ensures lands { IfOk result (λ started. HasBlocks (Some started.1) (E.world estate.new)) }
+    ensures lands { IfOk result (λ started. HasBlocks started.1 (E.world estate.new)) }
     ensures fault { IsErrOf result LogError.Fault →
         LogRose (E.world estate.old) (E.world estate.new) }
     ensures met { AnswersFaults (E.world estate.old) (E.world estate.new) result }

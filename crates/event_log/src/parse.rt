@@ -1,5 +1,5 @@
 ghost use Rattle.std.specs.Prelude.{◌≡◌, ◌+◌, ◌<◌, ◌≤◌, length, MatchOption};
-ghost use Rattle.event_log.specs.Blocks.{length_at};
+ghost use Rattle.event_log.specs.Blocks.{body_at, length_at};
 ghost use Rattle.event_log.specs.Answers.{AnswersParse};
 
 use crate::{Blocks, LogError};
@@ -16,11 +16,10 @@ pub fn parse(alloc: Global, log: &[u8]) -> Result<(Blocks, usize), LogError>
         if log[end] == 0 {
             return Ok((blocks, end));
         }
-        let after = &log[end + 1..];
-        match body_len(after) {
-            Some(len) => {
-                blocks.push(Bytes::from_slice(alloc, &after[8..8 + len])?)?;
-                end += 9 + len;
+        match block_body(&log[end + 1..]) {
+            Some(body) => {
+                blocks.push(Bytes::from_slice(alloc, body)?)?;
+                end += 9 + body.len();
             }
             None => return Err(broken(blocks)),
         }
@@ -38,20 +37,16 @@ fn broken(before: Blocks) -> LogError
     }
 }
 
-// The length of the body behind an open gate, where the body and the next gate are there.
-fn body_len(after: &[u8]) -> Option<usize>
-    ensures { MatchOption result (length after.now ≤ 8 + length_at after.now) (λ n. (n
-        ≡ length_at after.now) × (8 + n < length after.now)) }
+// The body behind an open gate, where it and the next gate are there.
+fn block_body(after: &[u8]) -> Option<&[u8]>
+    ensures { MatchOption result
+        (length after.now ≤ 8 + length_at after.now)
+        (λ body. (body.now ≡ body_at after.now) × (8 + length_at after.now < length after.now)) }
 {
-    if after.len() < 8 {
-        return None;
-    }
-    let head = [
-        after[0], after[1], after[2], after[3], after[4], after[5], after[6], after[7],
-    ];
-    let len = u64::from_be_bytes(head) as usize;
-    if len < after.len() - 8 {
-        Some(len)
+    let (head, rest) = after.split_first_chunk::<8>()?;
+    let len = u64::from_be_bytes(*head) as usize;
+    if len < rest.len() {
+        Some(&rest[..len])
     } else {
         None
     }

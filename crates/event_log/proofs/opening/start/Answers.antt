@@ -2,11 +2,12 @@ use Rattle.std.proofs.Common.{◌≡◌, ◌⊎◌, inl, inr, ℕ, ◌≤◌, Li
 use Rattle.estate.specs.declared.estate_error.EstateError.{EstateError}
 use Rattle.estate.specs.declared.estate_error.EstateError.TheVariants as estate
 use Rattle.estate.proofs.Laws.{leads_stays, told_on}
-use Rattle.event_log.specs.Blocks.{blocks_of}
+use Rattle.event_log.specs.Blocks.{Reads}
 use Rattle.event_log.specs.Answers.{AnswersBytes, log_error}
 use Rattle.event_log.specs.declared.log_error.LogError.{LogError}
 use Rattle.event_log.specs.declared.log_error.LogError.TheVariants.{Fault}
-use Rattle.event_log.proofs.Reading.{fresh_blocks, read_blocks, read_within}
+use Rattle.event_log.specs.declared.log.TheConstants.{LOG_LIMIT}
+use Rattle.event_log.proofs.Reading.{read_blocks, read_within}
 use Rattle.event_log.proofs.Starts.{adds_nothing, stays_fresh, then_fresh, synced_stays, read_started, fresh_of, bytes_of, limit_of, refused_log}
 use Rattle.event_log.proofs.StayingStarted.{started_lands}
 use Rattle.event_log.proofs.opening.start.Goals as goal
@@ -18,6 +19,9 @@ refused estate.NoMemory result is memory = inr (memory refl)
 on_err : {T E P : Type 0} (result : Result T E) → P → OnErr result P
 on_err (Ok x) p = tt
 on_err (Err e) p = p
+
+pub returns-in_err-log_sync-clause-adds_nothing : goal.returns-in_err-log_sync-clause-adds_nothing
+returns-in_err-log_sync-clause-adds_nothing g c = adds_nothing _ _ (g.met.E.Estate.lawful c.args.estate.now) (stays_fresh _ _ c.log_sync.ensures.leads)
 
 pub returns-in_err-read_log-clause-adds_nothing : goal.returns-in_err-read_log-clause-adds_nothing
 returns-in_err-read_log-clause-adds_nothing g c =
@@ -66,8 +70,8 @@ pub returns-in-None-clause-answer : goal.returns-in-None-clause-answer
 returns-in-None-clause-answer g c told =
     let kept = (c.log_sync.ensures.leads.holding told).log in
     let short = subst (λ (l : List ℕ). length l ≤ 1) kept (fresh_of _ _ c.in-None.is (c.in_ok-read_log.ensures.bytes (told_on _ _ c.log_sync.ensures.leads.time told))) in
-    let most : length (g.E.Estate.world c.args.estate.now).holding.log ≤ 268435456 = omega (arith, short) in
-    (fresh_blocks _ short ∙ ap (λ (l : List (List ℕ)). Some l) (sym c.new.ensures), most)
+    let most : length (g.E.Estate.world c.args.estate.now).holding.log ≤ LOG_LIMIT = omega (arith, short) in
+    (inl (short, c.new.ensures), most)
 
 pub returns-in-Ok-clause-adds_nothing : goal.returns-in-Ok-clause-adds_nothing
 returns-in-Ok-clause-adds_nothing g c =
@@ -84,7 +88,7 @@ returns-in-Ok-clause-answer g c told =
     let kept = (c.log_sync.ensures.leads.holding told).log in
     let found = subst (λ (l : List ℕ). AnswersBytes l (Ok c.in_ok-read_log.field-0)) kept (c.in_ok-read_log.ensures.bytes (told_on _ _ c.log_sync.ensures.leads.time told)) in
     let bytes = bytes_of _ _ _ c.in-Some.is found in
-    (sym (ap blocks_of (c.as_slice.ensures ∙ bytes.0)) ∙ read_blocks _ _ _ c.in-Ok.ensures, bytes.2)
+    (subst (λ (l : List ℕ). Reads l c.in-Ok.blocks) (c.as_slice.ensures ∙ bytes.0) (read_blocks _ _ _ c.in-Ok.ensures), bytes.2)
 
 pub returns-in-Ok-clause-started : goal.returns-in-Ok-clause-started
 returns-in-Ok-clause-started g c told =
