@@ -4,32 +4,50 @@ use row_core::{Bytes, Columns, NoMemory};
 use std::alloc::{AllocError, Global};
 use std::test::Fail;
 
-// A source, and a sink over which its rows are spread anew.
-fn spread(alloc: Global) -> Result<Plan, NoMemory> {
+fn text(alloc: Global, text: &str) -> Result<Bytes, NoMemory> {
+    Bytes::from_slice(alloc, text.as_bytes())
+}
+
+fn schema(alloc: Global) -> Result<Schema, NoMemory> {
     let mut columns = Vec::new(alloc);
     columns.push(Column {
-        name: Bytes::from_slice(alloc, b"c")?,
+        name: text(alloc, "c")?,
         kind: Kind::IntKind,
     })?;
-    let source = Op::Source {
-        table: Bytes::from_slice(alloc, b"t")?,
-        columns: Schema::from_vec(columns),
-    };
-    let sink = Op::Sink {
-        name: Bytes::from_slice(alloc, b"out")?,
-    };
-    let mut nodes = Vec::new(alloc);
-    nodes.push(Node {
-        op: source,
+    Ok(Schema::from_vec(columns))
+}
+
+fn source(alloc: Global) -> Result<Node, NoMemory> {
+    Ok(Node {
+        op: Op::Source {
+            table: text(alloc, "t")?,
+            columns: schema(alloc)?,
+        },
         inputs: Columns::from_vec(Vec::new(alloc)),
         rebalance: false,
-    })?;
-    nodes.push(Node {
-        op: sink,
+    })
+}
+
+fn sink(alloc: Global) -> Result<Node, NoMemory> {
+    Ok(Node {
+        op: Op::Sink {
+            name: text(alloc, "out")?,
+        },
         inputs: Columns::from_vec(vec![in alloc; 0]?),
         rebalance: true,
-    })?;
+    })
+}
+
+// A source, and a sink over which its rows are spread anew.
+fn spread(alloc: Global) -> Result<Plan, NoMemory> {
+    let mut nodes = Vec::new(alloc);
+    nodes.push(source(alloc)?)?;
+    nodes.push(sink(alloc)?)?;
     Ok(Plan::from_vec(nodes))
+}
+
+fn nodes(alloc: Global, nodes: &[u32]) -> Result<NodeSet, NoMemory> {
+    Ok(NodeSet::from_vec(nodes.to_vec(alloc)?))
 }
 
 // What can be made where the source's vertex is complete.
@@ -43,8 +61,8 @@ fn behind_the_source(alloc: Global) -> Result<String, NoMemory> {
         Err(PlanError::NoMemory) => return Err(AllocError),
         Err(PlanError::Fault(_)) => return format!(in alloc; "fault"),
     };
-    let made = NodeSet::from_vec(vec![in alloc; 0]?);
-    let complete = NodeSet::from_vec(vec![in alloc; 0]?);
+    let made = nodes(alloc, &[0])?;
+    let complete = nodes(alloc, &[0])?;
     let widened = Widenings::from_vec(Vec::new(alloc));
     let settings = Settings::defaults();
     let vertices = makeable(alloc, &good, &made, &complete, &widened, &settings)?;
