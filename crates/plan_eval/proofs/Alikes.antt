@@ -14,7 +14,7 @@ use Rattle.plan_model.specs.Plans.{Bag, bag_at, bag_of, join_width, empty_bag}
 use Rattle.plan_model.specs.Widths.{width_of}
 use Rattle.plan_model.specs.declared.op.Op.{Op}
 use Rattle.plan_model.specs.declared.op.Op.TheVariants.{Source, Filter, Project, Explode, Union, Aggregate, Distinct, Join, Sink}
-use Rattle.plan_eval.specs.Evaluated.{Alike}
+use Rattle.plan_model.specs.Nodes.{Alike}
 
 pub alike_itself : (bag : Bag) → Alike bag bag
 alike_itself bag = record { width = refl; rows = same_refl bag.rows }
@@ -58,19 +58,3 @@ by_bags files (Join kind keys) inputs others alike =
           (joined_same kind keys left.width right.width left.rows left'.rows right.rows right'.rows (alike 0).rows (alike 1).rows);
     }
 by_bags files (Sink name) inputs others alike = alike 0
-
--- ---- widths
-
-pub width_at : (bags : List Bag) (place : ℕ) → (bag_at bags place).width ≡ get_or (map (λ bag. bag.width) bags) place 0
-width_at bags place = sym (get_or-map (λ (bag : Bag). bag.width) bags place empty_bag)
-
-pub bag_width : (files : List ℕ → List (List ℕ)) (op : Op) (inputs : List Bag) → (bag_of files op inputs).width ≡ width_of op (map (λ bag. bag.width) inputs)
-bag_width files (Source table columns) inputs = refl
-bag_width files (Filter test) inputs = width_at inputs 0
-bag_width files (Project exprs) inputs = refl
-bag_width files (Explode column separator) inputs = width_at inputs 0
-bag_width files Union inputs = width_at inputs 0
-bag_width files (Aggregate keys aggs) inputs = refl
-bag_width files Distinct inputs = width_at inputs 0
-bag_width files (Join kind keys) inputs = λ i. join_width kind (width_at inputs 0 i) (width_at inputs 1 i)
-bag_width files (Sink name) inputs = width_at inputs 0

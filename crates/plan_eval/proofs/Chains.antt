@@ -8,12 +8,14 @@ use Rattle.plan_model.specs.Checks.{takes, columns_fit, widths_agree}
 use Rattle.plan_model.specs.Plans.{Bag, bag_at, empty_bag}
 use Rattle.plan_model.specs.Widths.{width_of, input_widths}
 use Rattle.plan_model.specs.declared.op.Op.{Op}
-use Rattle.plan_eval.specs.Evaluated.{Alike, AreAlike, HasItsWidth, IsGood, Keeps, KeepsBags, LosesBag, as_bag, bag_with, bags_found, inputs_in, with_chain}
+use Rattle.plan_eval.specs.Evaluated.{AreAlike, Keeps, KeepsBags, LosesBag, as_bag, bag_with, bags_found, inputs_in, with_chain}
+use Rattle.plan_model.specs.Nodes.{Alike, HasItsWidth, IsGood}
 use Rattle.plan_eval.specs.declared.node_rows.NodeRows.{NodeRows}
-use Rattle.plan_eval.proofs.Alikes.{width_at}
+use Rattle.plan_model.proofs.Laws.{width_at}
 use Rattle.plan_eval.proofs.Slots.{long_kept, width_here}
-use Rattle.plan_eval.proofs.Steps.{along, fits_too, widths_are}
-use Rattle.plan_eval.proofs.WidthsKept.{wide_at}
+use Rattle.plan_model.proofs.Laws.{widths_are}
+use Rattle.plan_eval.proofs.Steps.{along, fits_too}
+use Rattle.plan_model.proofs.Laws.{wide_at}
 
 pub chain_width : (chain : Option (List Row)) (bag : Bag) → (with_chain chain bag).width ≡ bag.width
 chain_width None bag = refl

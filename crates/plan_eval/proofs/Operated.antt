@@ -14,9 +14,10 @@ use Rattle.plan_model.specs.declared.schema.Schema.{Schema}
 use Rattle.plan_model.specs.declared.op.Op.{Op}
 use Rattle.plan_model.specs.declared.op.Op.TheVariants.{Source, Filter, Project, Explode, Union, Aggregate, Distinct, Join, Sink}
 use Rattle.op_unary.specs.Applied.{applied, is_row_wise, is_unary}
-use Rattle.plan_eval.specs.Evaluated.{IsGood, takes_one}
-use Rattle.plan_eval.proofs.Alikes.{width_at}
-use Rattle.plan_eval.proofs.WidthsKept.{wide_at}
+use Rattle.plan_model.specs.Nodes.{IsGood}
+use Rattle.plan_eval.specs.Evaluated.{takes_one}
+use Rattle.plan_model.proofs.Laws.{width_at}
+use Rattle.plan_model.proofs.Laws.{wide_at}
 
 pub no_other : (op : Op) → ((table : Bytes) (columns : Schema) → op ≡ Source table columns → ⊥) → (op ≡ Union → ⊥)
     → ((kind : JoinKind) (keys : KeyPairs) → op ≡ Join kind keys → ⊥) → ((name : Bytes) → op ≡ Sink name → ⊥) → takes_one op ≡ true

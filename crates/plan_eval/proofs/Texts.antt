@@ -17,7 +17,7 @@ use Rattle.plan_model.specs.Sinks.{line_less, line_of, sorted_lines}
 use Rattle.plan_model.specs.declared.node.Node.{Node}
 use Rattle.plan_model.specs.declared.op.Op.{Op}
 use Rattle.plan_model.specs.declared.op.Op.TheVariants.{Source, Filter, Project, Explode, Union, Aggregate, Distinct, Join, Sink}
-use Rattle.plan_eval.specs.Evaluated.{sink_at}
+use Rattle.plan_model.specs.Nodes.{sink_at}
 
 ascending_moved : (lines others : List (List ℕ)) → IsPermutation lines others → ascending line_less lines ≡ ascending line_less others
 ascending_moved lines others moved = ascending-same line_less (λ a b. is_eq (slice_cmp nat_cmp a b)) bytes_strict lines others

@@ -64,15 +64,6 @@ pub record KeepsBags (place : ℕ) (last : List ℕ) (bags left : List Bag) : Ty
 abbrev pub inputs_in : List NodeRows → List ℕ → List Bag
 inputs_in nodes inputs = map (bag_at (map as_bag nodes)) inputs
 
--- the same rows equally often, of one width
-pub record Alike (bag other : Bag) : Type 0 where
-  pub width : bag.width ≡ other.width
-  pub rows : SameBag bag.rows other.rows
-
--- each row has the bag's width
-abbrev pub HasItsWidth : Bag → Type 0
-HasItsWidth bag = All (λ row. length row ≡ bag.width) bag.rows
-
 -- the bags of all nodes so far
 abbrev pub bags_in : Found → List Bag
 bags_in found = bags_found found.done.items found.chains.items
@@ -92,19 +83,6 @@ bag_made made = with_chain made.chain (as_bag made.node)
 pub record IsGiven (files : List ℕ → List (List ℕ)) (op : Op) (given : List Bag) (bag : Bag) : Type 0 where
   pub width : bag.width ≡ width_of op (map (λ bag. bag.width) given)
   pub rows : IsTrue (not (is_sink op)) → SameBag bag.rows (bag_of files op given).rows
-
--- an operator that nothing is wrong with, on these inputs
-pub record IsGood (op : Op) (inputs : List Bag) : Type 0 where
-  pub number : IsTrue (takes op (length inputs))
-  pub columns : IsTrue (columns_fit op (map (λ bag. bag.width) inputs))
-  pub agree : IsTrue (widths_agree op (map (λ bag. bag.width) inputs))
-  pub narrow : All (λ width. width ≤ 256) (map (λ bag. bag.width) inputs)
-  pub wide : width_of op (map (λ bag. bag.width) inputs) ≤ 256
-  pub fit : All HasItsWidth inputs
-
--- a place of a sink
-abbrev pub sink_at : List Node → ℕ → Bool
-sink_at nodes place = option_map_or (λ node. is_sink node.op) (slice_get nodes place) false
 
 -- an operator on one input
 abbrev pub takes_one : Op → Bool

@@ -2,7 +2,8 @@ ghost use Rattle.std.specs.Prelude.{◌≡◌, ◌<◌, ◌∷◌, [], IfOk, OnO
 ghost use Rattle.row_core.specs.Bags.{SameBag};
 ghost use Rattle.op_unary.specs.Applied.{applied};
 ghost use Rattle.plan_model.specs.Plans.{bag_at};
-ghost use Rattle.plan_eval.specs.Evaluated.{IsGood, Keeps, LosesOnly, as_bag, takes_one};
+ghost use Rattle.plan_eval.specs.Evaluated.{Keeps, LosesOnly, as_bag, takes_one};
+ghost use Rattle.plan_model.specs.Nodes.{IsGood};
 
 use crate::done::{rows_of, take_node};
 use crate::node_rows::NodeRows;

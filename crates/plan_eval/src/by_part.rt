@@ -1,7 +1,8 @@
 ghost use Rattle.std.specs.Prelude.{◌≡◌, ◌<◌, ◌++◌, ◌∷◌, [], ℕ, List, All, IfOk, IfSome, IsTrue, MatchOption, OnOk, length};
 ghost use Rattle.op_join.specs.Sides.{goes_by_left as is_by_left};
 ghost use Rattle.plan_model.specs.Plans.{bag_at, sink_section};
-ghost use Rattle.plan_eval.specs.Evaluated.{HasPlaces, IsGiven, IsGood, KeepsBags, bag_made, bags_in, given_in};
+ghost use Rattle.plan_eval.specs.Evaluated.{HasPlaces, IsGiven, KeepsBags, bag_made, bags_in, given_in};
+ghost use Rattle.plan_model.specs.Nodes.{IsGood};
 
 use crate::chain::Chain;
 use crate::done::take_node;

@@ -4,7 +4,8 @@ ghost use Rattle.plan_model.specs.Checks.{is_sink};
 ghost use Rattle.plan_model.specs.Plans.{bag_at, bag_of, sink_section};
 ghost use Rattle.plan_model.specs.Joins.{joined};
 ghost use Rattle.plan_model.specs.Widths.{width_of as width_by};
-ghost use Rattle.plan_eval.specs.Evaluated.{IsGood, Keeps, LosesBoth, as_bag, inputs_in};
+ghost use Rattle.plan_eval.specs.Evaluated.{Keeps, LosesBoth, as_bag, inputs_in};
+ghost use Rattle.plan_model.specs.Nodes.{IsGood};
 
 use crate::applying::applied_to;
 use crate::done::{release, rows_of, take_node};

@@ -33,6 +33,6 @@ mod unread;
 
 pub use answering::answer;
 pub use files::Files;
-pub use laws::{nodes_go_by_bags, nodes_stand_on_inputs, rows_have_widths, sections_go_by_bags};
+pub use laws::{nodes_go_by_bags, sections_go_by_bags};
 pub use table_files::TableFiles;
 pub use table_rows::TableRows;

@@ -1,6 +1,7 @@
 ghost use Rattle.std.specs.Prelude.{◌≡◌, ◌≤◌, ◌<◌, ◌++◌, ℕ, List, All, IfOk, OnOk, length};
 ghost use Rattle.plan_model.specs.Plans.{Bag, bag_at, sink_section};
-ghost use Rattle.plan_eval.specs.Evaluated.{HasPlaces, IsGiven, IsGood, KeepsBags, bag_made, bags_in, given_in};
+ghost use Rattle.plan_eval.specs.Evaluated.{HasPlaces, IsGiven, KeepsBags, bag_made, bags_in, given_in};
+ghost use Rattle.plan_model.specs.Nodes.{IsGood};
 ghost use Rattle.plan_eval.specs.Tables.{files_of};
 
 use crate::TableRows;

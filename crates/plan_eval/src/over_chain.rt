@@ -3,7 +3,8 @@ ghost use Rattle.row_core.specs.Bags.{SameBag, one_of_each};
 ghost use Rattle.plan_model.specs.Operators.{aggregated};
 ghost use Rattle.plan_model.specs.Plans.{sink_section};
 ghost use Rattle.plan_model.specs.Sinks.{sorted_lines};
-ghost use Rattle.plan_eval.specs.Evaluated.{IsGiven, IsGood, bag_made, bag_with};
+ghost use Rattle.plan_eval.specs.Evaluated.{IsGiven, bag_made, bag_with};
+ghost use Rattle.plan_model.specs.Nodes.{IsGood};
 
 use crate::chain::Chain;
 use crate::made::Made;

@@ -4,12 +4,12 @@ use Rattle.plan_model.specs.Checks.{node_kinds}
 use Rattle.plan_model.specs.Plans.{Bag, bag_at, committed_text, sink_section}
 use Rattle.plan_model.specs.declared.node.Node.{Node}
 use Rattle.plan_model.specs.declared.plan_kind.PlanKind.{PlanKind}
-use Rattle.plan_model.proofs.Told.{told-next}
+use Rattle.plan_model.specs.Nodes.{IsGoodNode}
+use Rattle.plan_model.proofs.Laws.{good_node, node_read}
 use Rattle.plan_eval.specs.Evaluated.{KeepsBags, bag_made, bags_found}
 use Rattle.plan_eval.specs.Tables.{files_of}
 use Rattle.plan_eval.specs.declared.node_rows.NodeRows.{NodeRows}
 use Rattle.plan_eval.proofs.Chains.{found_long}
-use Rattle.plan_eval.proofs.Sound.{IsSound, sound_here, none_here, none_told}
 use Rattle.plan_eval.proofs.Steps.{IsEvaluated, earlier, good, text_more, one_more, none_evaluated, long_found}
 use Rattle.plan_eval.proofs.Taken.{taken_here}
 use Rattle.std.specs.Global.{Vec}
@@ -25,7 +25,8 @@ make_node-requires-clause-earlier c =
     let k = c.loop-node.node-index in
     let node = c.node-item.result in
     let found = c.loop-node.found in
-    let sound : IsSound (take k nodes) node = sound_here nodes k node c.loop-node-test.true c.node-item.is c.loop-node.invariant.told in
+    let sound : IsGoodNode (take k nodes) node =
+    good_node nodes k node c.nodes-nodes.ensures.faultless (node_read nodes k node c.loop-node-test.true c.node-item.is) in
     let taken = taken_here nodes c.in_ok-last.last.items k node c.in_ok-last.ensures c.loop-node-test.true c.node-item.is sound in
     let long = found_long found.done.items found.chains.items in
     let within = earlier (files_of c.args.tables.now) c.in_ok-last.last.items (take k nodes) (bags_found found.done.items found.chains.items) c.loop-node.invariant.evaluated node sound taken in
@@ -37,7 +38,8 @@ make_node-requires-clause-good c =
     let k = c.loop-node.node-index in
     let node = c.node-item.result in
     let found = c.loop-node.found in
-    let sound : IsSound (take k nodes) node = sound_here nodes k node c.loop-node-test.true c.node-item.is c.loop-node.invariant.told in
+    let sound : IsGoodNode (take k nodes) node =
+    good_node nodes k node c.nodes-nodes.ensures.faultless (node_read nodes k node c.loop-node-test.true c.node-item.is) in
     let taken = taken_here nodes c.in_ok-last.last.items k node c.in_ok-last.ensures c.loop-node-test.true c.node-item.is sound in
     good (files_of c.args.tables.now) c.in_ok-last.last.items (take k nodes) (bags_found found.done.items found.chains.items) c.loop-node.invariant.evaluated node sound taken
 
@@ -55,7 +57,7 @@ loop-node-preserved c =
     let stays = bags_found left.done.items left.chains.items in
     let lt = c.loop-node-test.true in
     let so_far = c.loop-node.invariant.evaluated in
-    let sound : IsSound before node = sound_here nodes k node lt c.node-item.is c.loop-node.invariant.told in
+    let sound : IsGoodNode before node = good_node nodes k node c.nodes-nodes.ensures.faultless (node_read nodes k node lt c.node-item.is) in
     let taken = taken_here nodes last k node c.in_ok-last.ensures lt c.node-item.is sound in
     let more : take (k + 1) nodes ≡ before ++ node ∷ [] = one_taken nodes k node lt c.node-item.is in
     let made = c.in_ok-made.made in
@@ -66,8 +68,6 @@ loop-node-preserved c =
     subst (λ (l : List ℕ). KeepsBags (length before) l bags stays) c.as_slice-last.ensures.value
     (subst (λ (n : ℕ). KeepsBags n c.as_slice-last.result.now bags stays) place c.in_ok-made.ensures.kept) in
     record {
-      told = told-next node_kinds nodes k node lt c.node-item.is
-          (ap (λ (kinds : List PlanKind). slice_get kinds 0) (none_here nodes k node lt c.node-item.is c.loop-node.invariant.told)) ∙ c.loop-node.invariant.told;
       evaluated = subst (λ (nodes : List Node). IsEvaluated files last nodes (bags_found c.push.new.self.done.items c.push.new.self.chains.items)) (sym more)
           (subst (λ (bags : List Bag). IsEvaluated files last (before ++ node ∷ []) bags) (sym c.in_ok-push.ensures.bags)
           (one_more files last before bags so_far node sound taken bag c.in_ok-made.ensures.made.width c.in_ok-made.ensures.made.rows stays kept));
@@ -83,7 +83,6 @@ loop-node-preserved c =
 
 pub loop-node-init : goal.loop-node-init
 loop-node-init c = record {
-  told = none_told c.nodes-nodes.result.now c.nodes-nodes.ensures.faultless;
   evaluated = subst (λ (bags : List Bag). IsEvaluated (files_of c.args.tables.now) c.in_ok-last.last.items [] bags) (sym c.in_ok-found.ensures.none)
       (none_evaluated (files_of c.args.tables.now) c.in_ok-last.last.items);
   places = c.in_ok-found.ensures.places;

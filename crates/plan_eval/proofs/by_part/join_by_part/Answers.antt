@@ -9,7 +9,7 @@ use Rattle.plan_model.specs.Widths.{width_of}
 use Rattle.plan_eval.specs.Evaluated.{AreAlike, LosesBag, as_bag, bag_made, bags_in}
 use Rattle.plan_eval.specs.declared.found.Found.{Found}
 use Rattle.plan_eval.specs.declared.node_rows.NodeRows.{NodeRows}
-use Rattle.plan_eval.proofs.Alikes.{width_at}
+use Rattle.plan_model.proofs.Laws.{width_at}
 use Rattle.plan_eval.proofs.Chains.{bag_plain, found_widths, keeps_equal, keeps_found, keeps_lost, keeps_on}
 use Rattle.plan_eval.proofs.Operated.{join_is}
 use Rattle.plan_eval.proofs.Slots.{keeps_others, long_kept}

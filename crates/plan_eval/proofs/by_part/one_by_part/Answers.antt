@@ -1,7 +1,8 @@
 use Rattle.std.proofs.Common.{◌∷◌, [], sym, subst, ap, ◌∙◌, get_or}
 use Rattle.std.specs.Global.{Vec}
 use Rattle.plan_model.specs.Plans.{Bag, bag_at}
-use Rattle.plan_eval.specs.Evaluated.{IsGiven, IsGood, bag_made, bags_in}
+use Rattle.plan_eval.specs.Evaluated.{IsGiven, bag_made, bags_in}
+use Rattle.plan_model.specs.Nodes.{IsGood}
 use Rattle.plan_eval.specs.declared.node_rows.NodeRows.{NodeRows}
 use Rattle.plan_eval.proofs.Chains.{bag_is, found_width}
 use Rattle.plan_eval.proofs.by_part.one_by_part.Goals as goal

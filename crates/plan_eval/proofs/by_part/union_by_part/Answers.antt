@@ -14,7 +14,7 @@ use Rattle.plan_model.specs.declared.op.Op.TheVariants.{Union}
 use Rattle.plan_eval.specs.Chains.{rows_unread}
 use Rattle.plan_eval.specs.Evaluated.{bag_made, bags_in, given_in}
 use Rattle.plan_eval.specs.declared.unread.Unread.{Unread}
-use Rattle.plan_eval.proofs.Alikes.{width_at}
+use Rattle.plan_model.proofs.Laws.{width_at}
 use Rattle.plan_eval.proofs.Chains.{found_width, given_at}
 use Rattle.plan_eval.proofs.by_part.union_by_part.Goals as goal
 

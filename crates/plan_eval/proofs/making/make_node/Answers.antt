@@ -5,7 +5,8 @@ use Rattle.std.specs.Option.{IfSome}
 use Rattle.plan_model.specs.Checks.{takes}
 use Rattle.plan_model.specs.Plans.{Bag, bag_at, sink_section}
 use Rattle.plan_model.specs.declared.op.Op.{Op}
-use Rattle.plan_eval.specs.Evaluated.{IsGiven, IsGood, bag_made, bags_in, given_in}
+use Rattle.plan_eval.specs.Evaluated.{IsGiven, bag_made, bags_in, given_in}
+use Rattle.plan_model.specs.Nodes.{IsGood}
 use Rattle.plan_eval.specs.Tables.{files_of}
 use Rattle.plan_eval.specs.declared.made.Made.{Made}
 use Rattle.plan_eval.proofs.Chains.{found_long}

@@ -3,7 +3,8 @@ use Rattle.row_core.specs.Bags.{SameBag}
 use Rattle.bag_laws.proofs.Alike.{same_on}
 use Rattle.plan_model.specs.Plans.{Bag, bag_at, bag_of, sink_section}
 use Rattle.plan_model.specs.Widths.{width_of}
-use Rattle.plan_eval.specs.Evaluated.{IsGood, bags_in}
+use Rattle.plan_eval.specs.Evaluated.{bags_in}
+use Rattle.plan_model.specs.Nodes.{IsGood}
 use Rattle.plan_eval.proofs.Alikes.{by_bags}
 use Rattle.plan_eval.proofs.Chains.{given_alike, given_widths, good_alike, inputs_plain, keeps_alike, keeps_found}
 use Rattle.plan_eval.proofs.Texts.{section_same}
