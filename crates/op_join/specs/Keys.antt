@@ -3,18 +3,18 @@ use Rattle.std.specs.Prelude.{◌≡◌, ℕ, List, [], ◌∷◌, All, map}
 use Rattle.std.specs.List.Sorted.{IsPermutation, IsSorted}
 use Rattle.row_core.specs.Values.{row_cmp}
 use Rattle.row_core.specs.declared.value.Value.{Value}
-use Rattle.op_join.specs.Cells.{lead_value}
+use Rattle.op_join.specs.Cells.{prefix_value}
 use Rattle.op_join.specs.Sides.{own_key, other_key}
 use Rattle.op_join.specs.declared.keyed.Keyed.{Keyed}
 
 -- the key as it is compared: the value beside the row, and then the other columns of the row itself
 abbrev pub own_key_of : List (ℕ × ℕ) → Keyed → List Value
 own_key_of [] keyed = []
-own_key_of (pair ∷ keys) keyed = lead_value keyed.lead ∷ own_key keys keyed.row.now
+own_key_of (pair ∷ keys) keyed = prefix_value keyed.prefix ∷ own_key keys keyed.row.now
 
 abbrev pub other_key_of : List (ℕ × ℕ) → Keyed → List Value
 other_key_of [] keyed = []
-other_key_of (pair ∷ keys) keyed = lead_value keyed.lead ∷ other_key keys keyed.row.now
+other_key_of (pair ∷ keys) keyed = prefix_value keyed.prefix ∷ other_key keys keyed.row.now
 
 -- beside each row stands its key's first value
 abbrev pub AreKeyed : List (ℕ × ℕ) → List Keyed → Type 0

@@ -1,4 +1,4 @@
 pub mod Cells
 pub mod Keys
 pub mod Sides
-pub mod Waiting
+pub mod Builds

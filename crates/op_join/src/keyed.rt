@@ -4,14 +4,14 @@ ghost use Rattle.op_join.specs.Sides.{own_key, other_key};
 ghost use Rattle.op_join.specs.Keys.{own_key_of, other_key_of};
 
 use crate::cells::{cell, cmp_cells};
-use crate::lead::{Lead, cmp_leads, lead_of};
+use crate::key_prefix::{KeyPrefix, cmp_prefixes, prefix_of};
 use row_core::Row;
 use std::cmp::Ordering;
 
 /// A row with the first value of its key beside it, which most comparisons look at alone.
 #[derive(Clone, Copy, Drop)]
 pub struct Keyed<'a> {
-    pub lead: Lead<'a>,
+    pub prefix: KeyPrefix<'a>,
     pub row: &'a Row,
 }
 
@@ -20,11 +20,11 @@ pub fn own_keyed<'a>(keys: &[(u32, u32)], row: &'a Row) -> Keyed<'a>
     ensures row { result.row.now ≡ row.now }
     ensures key { own_key_of keys.now result ≡ own_key keys.now row.now }
 {
-    let lead = match keys.first() {
-        None => Lead::Null,
-        Some(pair) => lead_of(cell(row, pair.0)),
+    let prefix = match keys.first() {
+        None => KeyPrefix::Null,
+        Some(pair) => prefix_of(cell(row, pair.0)),
     };
-    Keyed { lead, row }
+    Keyed { prefix, row }
 }
 
 /// A row of the other side with its key's first value.
@@ -32,11 +32,11 @@ pub fn other_keyed<'a>(keys: &[(u32, u32)], row: &'a Row) -> Keyed<'a>
     ensures row { result.row.now ≡ row.now }
     ensures key { other_key_of keys.now result ≡ other_key keys.now row.now }
 {
-    let lead = match keys.first() {
-        None => Lead::Null,
-        Some(pair) => lead_of(cell(row, pair.1)),
+    let prefix = match keys.first() {
+        None => KeyPrefix::Null,
+        Some(pair) => prefix_of(cell(row, pair.1)),
     };
-    Keyed { lead, row }
+    Keyed { prefix, row }
 }
 
 /// The order of two rows of the other side by their keys.
@@ -45,7 +45,7 @@ pub fn cmp_others(keys: &[(u32, u32)], a: &Keyed, b: &Keyed) -> Ordering
 {
     match keys.split_first() {
         None => Ordering::Equal,
-        Some((_, rest)) => match cmp_leads(a.lead, b.lead) {
+        Some((_, rest)) => match cmp_prefixes(a.prefix, b.prefix) {
             Ordering::Equal => cmp_other_rest(rest, a.row, b.row),
             unequal => unequal,
         },
@@ -58,7 +58,7 @@ pub fn cmp_to(keys: &[(u32, u32)], other: &Keyed, row: &Keyed) -> Ordering
 {
     match keys.split_first() {
         None => Ordering::Equal,
-        Some((_, rest)) => match cmp_leads(other.lead, row.lead) {
+        Some((_, rest)) => match cmp_prefixes(other.prefix, row.prefix) {
             Ordering::Equal => cmp_rest_to(rest, other.row, row.row),
             unequal => unequal,
         },
@@ -71,7 +71,7 @@ pub fn cmp_from(keys: &[(u32, u32)], row: &Keyed, other: &Keyed) -> Ordering
 {
     match keys.split_first() {
         None => Ordering::Equal,
-        Some((_, rest)) => match cmp_leads(row.lead, other.lead) {
+        Some((_, rest)) => match cmp_prefixes(row.prefix, other.prefix) {
             Ordering::Equal => cmp_rest_from(rest, row.row, other.row),
             unequal => unequal,
         },

@@ -1,7 +1,7 @@
 ghost use Rattle.std.specs.Prelude.{◌<◌, IsTrue};
 ghost use Rattle.op_join.specs.Sides.{goes_by_left};
 
-use crate::{RightSide, join, join_owned};
+use crate::{BuildSide, join, join_owned};
 use plan_model::{JoinKind, KeyPairs, Widths};
 use row_core::{Bytes, NoMemory, Row, Rows, Value};
 use std::alloc::Global;
@@ -150,10 +150,10 @@ fn join_in_parts(alloc: Global, kind: JoinKind) -> Result<Vec<u8>, NoMemory>
     let keys = KeyPairs::from_vec(vec![in alloc; (0, 0)]?);
     let widths = Widths { left: 2, right: 2 };
     let right = read_rows(alloc, "#1 x;#3 z;#1 y;")?;
-    let side = RightSide::new(alloc, kind, &keys, widths, &right)?;
+    let side = BuildSide::new(alloc, kind, &keys, widths, &right)?;
     let mut given = Vec::new(alloc);
     for part in ["#1 a;#2 b;", "", "? c;#1 d;"] {
-        let rows = side.join_part(alloc, read_rows(alloc, part)?)?;
+        let rows = side.probe(alloc, read_rows(alloc, part)?)?;
         given.append(&mut rows.into_vec())?;
     }
     show(alloc, &Rows::from_vec(given))

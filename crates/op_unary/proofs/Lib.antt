@@ -13,6 +13,6 @@ pub mod Owed
 pub mod Parts
 pub mod Matched
 pub mod Rests
-pub mod Joins
+pub mod Merges
 pub mod Told
 pub mod Neighbours

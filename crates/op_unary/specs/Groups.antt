@@ -5,7 +5,7 @@ use Rattle.row_core.specs.Values.{same_row}
 use Rattle.row_core.specs.declared.value.Value.{Value}
 use Rattle.plan_model.specs.Operators.{key_of}
 use Rattle.plan_model.specs.declared.agg.Agg.{Agg}
-use Rattle.op_unary.specs.Partials.{partial_of}
+use Rattle.op_unary.specs.Accumulators.{accumulator_of}
 use Rattle.op_unary.specs.declared.group.Group.{Group}
 use Rattle.op_unary.specs.declared.groups.Groups.{Groups}
 
@@ -13,7 +13,7 @@ use Rattle.op_unary.specs.declared.groups.Groups.{Groups}
 pub record TellsOf (keys : List ℕ) (aggs : List Agg) (group : Group) (rows : List (List Value)) : Type 0 where
   pub some : 0 < length rows
   pub one_key : All (λ row. key_of keys row ≡ group.key) rows
-  pub partials : group.partials.items ≡ map (partial_of rows) aggs
+  pub accumulators : group.accumulators.items ≡ map (accumulator_of rows) aggs
 
 -- the rows are in some order those that the groups tell of, each of its own
 abbrev pub AreTold : List ℕ → List Agg → List Group → List (List Value) → Type 0

@@ -2,5 +2,5 @@ pub mod Applied
 pub mod Cells
 pub mod Distinct
 pub mod Hashes
-pub mod Partials
+pub mod Accumulators
 pub mod Groups

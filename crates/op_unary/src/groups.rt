@@ -5,25 +5,25 @@ ghost use Rattle.plan_model.specs.Operators.{aggregated};
 ghost use Rattle.plan_model.specs.declared.agg.Agg.{Agg as OneAgg};
 ghost use Rattle.op_unary.specs.Groups.{StandsFor};
 
-use crate::combining::{combined, into_rows};
 use crate::group::Group;
 use crate::grouping::with_runs;
 use crate::keys::by_key;
+use crate::merging_groups::{into_rows, merge_groups};
 use plan_model::Agg;
 use row_core::{NoMemory, Row, Rows};
 use std::alloc::Global;
 
-// So few groups are not worth combining.
+// So few groups are not worth merging_groups.
 const FEW: usize = 1024;
 
-/// The aggregates of rows that come part by part. The rows aren't kept: only what the aggregates have told of
-/// each key so far.
+/// The aggregates of rows that come part by part. The rows aren't kept: only an accumulator
+/// for each key and aggregate.
 #[derive(Drop)]
 pub struct Groups<'a> {
     keys: &'a [u32],
     aggs: &'a [Agg],
     groups: Vec<Group>,
-    // how many of them there were when they were last combined, one for each key
+    // how many of them there were when they were last merge_groups, one for each key
     settled: usize,
 }
 
@@ -69,7 +69,7 @@ impl<'a> Groups<'a> {
                 settled,
             });
         }
-        let groups = combined(alloc, groups)?;
+        let groups = merge_groups(alloc, groups)?;
         let settled = groups.len();
         Ok(Groups {
             keys,
@@ -84,7 +84,7 @@ impl<'a> Groups<'a> {
         ensures { (keys : List ℕ) (aggs : List OneAgg) (before : List OneRow) → StandsFor keys aggs self.entry before
             → IfOk result (λ made. SameBag made (aggregated keys aggs before)) }
     {
-        let groups = combined(alloc, self.groups)?;
+        let groups = merge_groups(alloc, self.groups)?;
         into_rows(alloc, groups)
     }
 }

@@ -2,9 +2,10 @@
 //! docs/SEMANTICS.md says what each gives. Rows come in no promised order.
 #![tactic(auto)]
 
+mod accumulating;
+mod accumulator;
 mod aggregating;
 mod cells;
-mod combining;
 mod distinct_rows;
 mod each_once;
 mod exploding;
@@ -13,17 +14,16 @@ mod first_places;
 mod group;
 mod grouping;
 mod groups;
+mod hashed_row;
 mod hashing;
-mod joining;
 mod keyed;
 mod keys;
 mod laws;
 mod marking;
+mod merging;
+mod merging_groups;
 mod operators;
-mod partial;
-mod placed;
 mod projecting;
-mod telling;
 #[cfg(test)]
 mod tests;
 

@@ -335,7 +335,7 @@ fn doubles(alloc: Global, size: i64) -> Result<Rows, NoMemory> {
 }
 
 #[test]
-fn many_groups_are_joined(rt: HostRuntime) -> Result<(), Fail> {
+fn many_groups_are_merged(rt: HostRuntime) -> Result<(), Fail> {
     let alloc = rt.alloc();
     let mut groups = Groups::new(alloc, &[0], &[Agg::Count]);
     for _ in 0..4 {
