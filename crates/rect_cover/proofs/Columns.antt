@@ -6,8 +6,7 @@ use Rattle.std.proofs.lemmas.List.Elements.{All-nil, All-append}
 use Rattle.std.specs.List.{flat_map}
 use Rattle.row_core.specs.Bags.{SameBag}
 use Rattle.bag_laws.specs.Rows.{OneRow as Row, AreApart, IsKeyed}
-use Rattle.bag_laws.proofs.Totals.{total, total-append, total-where, total-times, total-flat_map}
-use Rattle.bag_laws.proofs.Alike.{by_weights, weighs}
+use Rattle.bag_laws.proofs.Laws.{total, total-append, total-where, total-times, total-flat_map, by_weights, weighs}
 use Rattle.rect_cover.specs.declared.grid.Grid.{Grid}
 use Rattle.rect_cover.specs.Cells.{Reads, rects_of, times, whole, reading, touches, gathered}
 use Rattle.rect_cover.specs.Covers.{HasColumns, ByColumns}

@@ -3,9 +3,7 @@ use Rattle.std.proofs.Common.{get_or, ◌≡◌, ℕ, ◌<◌, Bool, true, false
 use Rattle.std.specs.List.{flat_map}
 use Rattle.row_core.specs.Bags.{SameBag}
 use Rattle.bag_laws.specs.Rows.{OneRow as Row}
-use Rattle.bag_laws.proofs.Totals.{total-where, total-swap}
-use Rattle.bag_laws.proofs.Counts.{SameBag-append}
-use Rattle.bag_laws.proofs.Alike.{by_weights, weighs, flat_map-split}
+use Rattle.bag_laws.proofs.Laws.{total-where, total-swap, SameBag-append, by_weights, weighs, flat_map-split}
 use Rattle.rect_cover.specs.declared.grid.Grid.{Grid}
 use Rattle.rect_cover.specs.Cells.{Reads, rects_of, times, whole, reading, touches}
 use Rattle.rect_cover.specs.Covers.{EachOnce, HasColumns, ByColumns, IsDriven, SameColumns}

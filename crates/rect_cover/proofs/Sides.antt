@@ -5,8 +5,7 @@ use Rattle.std.proofs.lemmas.Bool.{cases_eq}
 use Rattle.std.specs.List.{flat_map, filter, sum_by}
 use Rattle.row_core.specs.Bags.{SameBag}
 use Rattle.bag_laws.specs.Rows.{OneRow as Row}
-use Rattle.bag_laws.proofs.Totals.{total, total-each, total-where, total-times, total-flat_map, total-map, total-filter, total-zero, total-scaled}
-use Rattle.bag_laws.proofs.Alike.{by_weights, weighs}
+use Rattle.bag_laws.proofs.Laws.{total, total-each, total-where, total-times, total-flat_map, total-map, total-filter, total-zero, total-scaled, by_weights, weighs}
 use Rattle.rect_cover.specs.declared.grid.Grid.{Grid}
 use Rattle.rect_cover.specs.Cells.{Reads, rects_of, times, whole, reading}
 use Rattle.rect_cover.specs.Covers.{EachOnce, HasWhole, HasPartners, IsDriven, EachPair}

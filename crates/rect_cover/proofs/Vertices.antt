@@ -4,9 +4,7 @@ use Rattle.std.proofs.lemmas.List.{length-map}
 use Rattle.std.specs.List.{flat_map, filter, AllZip}
 use Rattle.row_core.specs.Bags.{SameBag}
 use Rattle.bag_laws.specs.Rows.{OneRow as Row}
-use Rattle.bag_laws.proofs.Totals.{total-flat_map, total-zero}
-use Rattle.bag_laws.proofs.Counts.{SameBag-append, SameBag-filter, SameBag-map}
-use Rattle.bag_laws.proofs.Alike.{by_weights, same_refl, same_on, same_flat_map, flat_map-split, flat_map-joined}
+use Rattle.bag_laws.proofs.Laws.{total-flat_map, total-zero, SameBag-append, SameBag-filter, SameBag-map, by_weights, same_refl, same_on, same_flat_map, flat_map-split, flat_map-joined}
 use Rattle.rect_cover.specs.declared.grid.Grid.{Grid}
 use Rattle.rect_cover.specs.Cells.{Reads, rects_of, whole, reading}
 use Rattle.rect_cover.specs.Covers.{EachOnce, HasWhole, Demand, IsCover}

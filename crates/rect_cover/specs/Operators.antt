@@ -1,5 +1,5 @@
--- The operators of a plan as heads, and the joins that may be widened.
-use Rattle.std.specs.Prelude.{ℕ, ⊤, List, [], ◌∷◌, ◌++◌, map}
+-- The operators of a plan as heads, and its joins as links.
+use Rattle.std.specs.Prelude.{ℕ, List, [], ◌∷◌, ◌++◌, map}
 use Rattle.row_core.specs.Bags.{one_of_each}
 use Rattle.row_core.specs.Values.{same_row}
 use Rattle.bag_laws.specs.Rows.{OneRow as Row}
@@ -33,31 +33,6 @@ join_head keys left_width right_width kind.Right = by_right (matches keys) (righ
 join_head keys left_width right_width kind.Full = by_both (matches keys) (left_gives right_width) (λ row matched. if_unmatched (nulls left_width ++ row) matched)
 join_head keys left_width right_width kind.Semi = by_left (matches keys) if_matched
 join_head keys left_width right_width kind.Anti = by_left (matches keys) if_unmatched
-
--- the right side of these may be repeated
-abbrev pub RepeatsRight : JoinKind → Type 0
-RepeatsRight kind.Inner = ⊤
-RepeatsRight kind.Left = ⊤
-RepeatsRight kind.Right = ⊥
-RepeatsRight kind.Full = ⊥
-RepeatsRight kind.Semi = ⊤
-RepeatsRight kind.Anti = ⊤
-
--- the left side of these may be repeated
-abbrev pub RepeatsLeft : JoinKind → Type 0
-RepeatsLeft kind.Inner = ⊤
-RepeatsLeft kind.Left = ⊥
-RepeatsLeft kind.Right = ⊤
-RepeatsLeft kind.Full = ⊥
-RepeatsLeft kind.Semi = ⊥
-RepeatsLeft kind.Anti = ⊥
-
--- the key columns of the left side, and those of the right
-abbrev pub left_columns : List (ℕ × ℕ) → List ℕ
-left_columns keys = map (λ pair. pair.0) keys
-
-abbrev pub right_columns : List (ℕ × ℕ) → List ℕ
-right_columns keys = map (λ pair. pair.1) keys
 
 -- a join that is chained to its left side, which is its probe side
 abbrev pub right_built : List (ℕ × ℕ) → ℕ → ℕ → JoinKind → Link

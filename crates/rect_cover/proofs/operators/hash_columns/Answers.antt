@@ -1,11 +1,11 @@
 use Rattle.std.proofs.Common.{ℕ, ◌%◌, ◌∙◌, ap}
 use Rattle.row_core.specs.Values.{same_row}
 use Rattle.bag_laws.specs.Rows.{OneRow as Row}
-use Rattle.bag_laws.proofs.Orders.{same_row_is}
+use Rattle.bag_laws.proofs.Laws.{same_row_is}
 use Rattle.plan_model.specs.Operators.{key_of}
 use Rattle.plan_model.specs.Joins.{matches}
-use Rattle.rect_cover.specs.Operators.{left_columns, right_columns}
-use Rattle.rect_cover.proofs.Joins.{matching_keys}
+use Rattle.operator_laws.specs.Applied.{left_columns, right_columns}
+use Rattle.operator_laws.proofs.Laws.{matching_keys}
 use Rattle.rect_cover.proofs.Places.{matches_of_places, meets_of_places}
 use Rattle.rect_cover.proofs.operators.hash_columns.Goals as goal
 
