@@ -1,10 +1,7 @@
-pub mod Alikes
-pub mod ByPart
-pub mod Stepped
-pub mod Chains
-pub mod Gathered
-pub mod Operated
-pub mod Slots
-pub mod Steps
-pub mod Taken
-pub mod Texts
+mod Bridge
+mod ByBatch
+mod Frames
+mod Operated
+mod Stages
+mod Steps
+mod Taken

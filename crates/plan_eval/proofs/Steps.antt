@@ -1,13 +1,13 @@
 -- One node more: its rows are the definition's, and so is the text so far.
-use Rattle.std.proofs.Common.{◌≡◌, ℕ, zero, suc, ◌+◌, ◌<◌, ◌≤◌, true, not, leb-true, ◌⊎◌, inl, inr, List, [], ◌∷◌, ◌++◌, length, map, get_or, All, IsTrue, refl, sym, subst, ◌∙◌, ap, arith, length-append}
+use Rattle.std.proofs.Common.{◌≡◌, ℕ, zero, suc, ◌+◌, ◌<◌, ◌≤◌, true, not, nat_lt, leb-true, ◌⊎◌, inl, inr, List, [], ◌∷◌, ◌++◌, length, map, get_or, All, IsTrue, refl, sym, subst, ◌∙◌, ap, arith, length-append}
 use Rattle.std.proofs.Math.Seq.{get_or-append_seam}
+use Rattle.std.proofs.lemmas.Bool.Decides.{nat_tests}
 use Rattle.std.proofs.lemmas.List.{length-map, map-append, append_assoc, append-nil, get_or_append_left}
 use Rattle.std.proofs.lemmas.List.Elements.{All-append, All-map}
 use Rattle.std.proofs.lemmas.List.Sorted.{All-permutation}
 use Rattle.std.proofs.lemmas.List.Sums.{AllPass-from_list_all}
 use Rattle.row_core.specs.Bags.{SameBag}
-use Rattle.bag_laws.proofs.Alike.{same_sym}
-use Rattle.bag_laws.proofs.Permutations.{permutation_of_same}
+use Rattle.bag_laws.proofs.Laws.{permutation_of_same, same_on, same_refl, same_sym}
 use Rattle.plan_model.specs.Checks.{takes, columns_fit, widths_agree, gives_rows, is_sink}
 use Rattle.plan_model.specs.Plans.{Bag, bag_at, bag_of, bags_from, bags_of, empty_bag, sink_section, sink_sections, committed_text}
 use Rattle.plan_model.specs.Widths.{width_of, widths_of, widths_from, input_widths}
@@ -15,10 +15,18 @@ use Rattle.plan_model.specs.declared.node.Node.{Node}
 use Rattle.plan_model.specs.declared.op.Op.{Op}
 use Rattle.plan_model.specs.declared.op.Op.TheVariants.{Source, Filter, Project, Explode, Union, Aggregate, Distinct, Join, Sink}
 use Rattle.plan_model.proofs.Laws.{bag_wide, bag_width, bags_long, bags_next, gives_within, new_at, old_at, width_at, widths_are, widths_long, widths_next}
-use Rattle.plan_eval.specs.Evaluated.{KeepsBags}
+use Rattle.operator_laws.proofs.Laws.{bags_same, section_same}
+use Rattle.plan_eval.specs.Evaluated.{Stays}
 use Rattle.plan_model.specs.Nodes.{Alike, HasItsWidth, IsGood, IsGoodNode}
-use Rattle.plan_eval.proofs.Alikes.{alike_itself, alike_on, by_bags}
-use Rattle.plan_eval.proofs.Texts.{section_same}
+
+alike_itself : (bag : Bag) → Alike bag bag
+alike_itself bag = record { width = refl; rows = same_refl bag.rows }
+
+alike_on : (bag other more : Bag) → Alike bag other → Alike other more → Alike bag more
+alike_on bag other more one two = record { width = one.width ∙ two.width; rows = same_on one.rows two.rows }
+
+lt_true : (m n : ℕ) → m < n → nat_lt m n ≡ true
+lt_true m n lt = grind (arith, nat_tests)
 
 -- ---- the definitions, one node more at a time
 
@@ -144,7 +152,7 @@ module _ (files : List ℕ → List (List ℕ)) (last : List ℕ) (before : List
 
   module _ (made : Bag) (width : made.width ≡ width_of node.op (map (λ bag. bag.width) given))
       (rows : IsTrue (not (is_sink node.op)) → SameBag made.rows (bag_of files node.op given).rows)
-      (stays : List Bag) (kept : KeepsBags (length before) last found stays) where
+      (stays : List Bag) (kept : Stays (λ place. nat_lt (length before) (get_or last place 0) ≡ true) found stays) where
     long_stays : length stays ≡ length before
     long_stays = let one = length-map stays (λ (bag : Bag). bag.width) in let other = length-map found (λ (bag : Bag). bag.width) in
         let same : length (map (λ bag. bag.width) stays) ≡ length (map (λ bag. bag.width) found) = ap (λ (widths : List ℕ). length widths) kept.widths in
@@ -155,7 +163,7 @@ module _ (files : List ℕ → List (List ℕ)) (last : List ℕ) (before : List
 
     made_alike : not (is_sink node.op) ≡ true → Alike made (bag_of files node.op owed)
     made_alike gives = alike_on made (bag_of files node.op given) (bag_of files node.op owed)
-        (record { width = made_width; rows = rows gives }) (by_bags files node.op given owed inputs_alike)
+        (record { width = made_width; rows = rows gives }) (bags_same files node.op given owed inputs_alike)
 
     made_fits : not (is_sink node.op) ≡ true → HasItsWidth made
     made_fits gives = fits_too (bag_of files node.op given) made made_width (rows gives) (bag_wide files node.op given good)
@@ -179,7 +187,7 @@ module _ (files : List ℕ → List (List ℕ)) (last : List ℕ) (before : List
     stays_alike : (place : ℕ) → length (before ++ node ∷ []) ≤ get_or last place 0 → Alike (bag_at stays place) (bag_at found place)
     stays_alike place later = record {
       width = width_at stays place ∙ ap (λ (widths : List ℕ). get_or widths place 0) kept.widths ∙ sym (width_at found place);
-      rows = kept.others place (let more = length-append before (node ∷ []) in omega (arith, later, more));
+      rows = kept.rows place (lt_true (length before) (get_or last place 0) (let more = length-append before (node ∷ []) in omega (arith, later, more)));
     }
 
     before_too : (place : ℕ) → length (before ++ node ∷ []) ≤ get_or last place 0 → length before ≤ get_or last place 0
