@@ -2,13 +2,14 @@ ghost use Rattle.std.specs.Prelude.{◌≡◌, ◌≢◌, ◌≤◌, ◌<◌, �
 ghost use Rattle.std.specs.List.{flat_map};
 ghost use Rattle.bag_laws.specs.Rows.{OneRow};
 ghost use Rattle.row_core.specs.Bags.{SameBag};
+ghost use Rattle.operator_laws.specs.Applied.{applied};
 ghost use Rattle.plan_model.specs.Operators.{is_unary};
 ghost use Rattle.plan_model.specs.Plans.{Bag, bag_at};
 ghost use Rattle.plan_model.specs.Sinks.{sorted_lines};
 ghost use Rattle.plan_model.specs.declared.op.Op.TheVariants.{Join as JoinOp, Sink as SinkOp, Source as SourceOp, Union as UnionOp};
 ghost use Rattle.plan_eval.specs.Evaluated.{HasRun, IsOutput, Keeps, MayRun, Stays, bag_with, inputs_in, is_needed, is_taken_later, with_kept};
 ghost use Rattle.plan_eval.specs.Outputs.{rows_of};
-ghost use Rattle.plan_eval.specs.Pipelines.{joined_by, scan_rows};
+ghost use Rattle.plan_eval.specs.Pipelines.{FindsColumns, joined_by, scan_rows};
 ghost use Rattle.plan_eval.specs.Tables.{files_of};
 ghost use Rattle.plan_eval.specs.Takers.{AreLast};
 
@@ -53,14 +54,14 @@ impl<'a> Evaluation<'a> {
 
     /// The text of the sinks so far.
     pub fn into_text(self) -> Bytes
-        ensures { result ≡ self.text }
+        ensures { result ≡ self.entry.text }
     {
         self.text
     }
 
     /// Adds what the next node gives.
     pub fn push(&mut self, output: NodeOutput<'a>) -> Result<(), NoMemory>
-        ensures outputs { OnOk result (self.new.outputs.items ≡ self.old.outputs.items ++ output ∷ []) }
+        ensures outputs { OnOk result (self.new.outputs.items ≡ self.old.outputs.items ++ output.entry ∷ []) }
         ensures last { self.new.last.items ≡ self.old.last.items }
         ensures text { self.new.text ≡ self.old.text }
     {
@@ -103,7 +104,8 @@ impl<'a> Evaluation<'a> {
         let width = self.width_of(input);
         let lines = self.take_lines(alloc, input)?;
         self.add_section(name, &lines)?;
-        Ok(NodeOutput::materialized(width, Rows::new(alloc)))
+        let rows = NodeRows::Materialized(Rows::new(alloc));
+        Ok(NodeOutput { width, rows })
     }
 
     // An operator on one input.
@@ -118,15 +120,33 @@ impl<'a> Evaluation<'a> {
         ensures { IfOk result (λ output. (files : List ℕ → List (List ℕ))
             → HasRun files op.now (input ∷ []) self.old self.new output) }
     {
-        let width = self.width_of(input);
-        let output = self.take(alloc, input);
+        let width = op.width(&[self.width_of(input)]) as u32;
+        let rows = self.unary_rows(alloc, op, input)?;
+        Ok(NodeOutput { width, rows })
+    }
+
+    fn unary_rows(
+        &mut self,
+        alloc: Global,
+        op: &'a Op,
+        input: u32,
+    ) -> Result<NodeRows<'a>, NoMemory>
+        requires within { input < length self.old.outputs.items }
+        requires unary { IsTrue (is_unary op.now) }
+        requires columns { FindsColumns op.now (bag_at self.old.outputs.items input).rows }
+        ensures rows { IfOk result (λ rows. SameBag (rows_of rows)
+            (applied op.now (bag_at self.old.outputs.items input).rows)) }
+        ensures kept { OnOk result (Keeps self.old self.new) }
+        ensures text { OnOk result (self.new.text ≡ self.old.text) }
+    {
+        let rows = self.take(alloc, input);
         if !self.is_taken_later(input) {
-            return output.apply(alloc, op);
+            return rows.apply(alloc, op);
         }
-        let rows = output.rows.materialize(alloc)?;
+        let rows = rows.materialize(alloc)?;
         let applied = apply(alloc, op, &rows)?;
         self.keep(input, rows);
-        Ok(NodeOutput::materialized(op.width(&[width]) as u32, applied))
+        Ok(NodeRows::Materialized(applied))
     }
 
     // A union: the scans of its inputs one after the other, where they have not run; else their rows.
@@ -136,11 +156,24 @@ impl<'a> Evaluation<'a> {
             → HasRun files UnionOp inputs.now self.old self.new output) }
     {
         let width = self.width_of(inputs[0]);
-        let rows = match self.scans_of(alloc, inputs)? {
-            Some(scans) => NodeRows::Pending(Pipeline::of_scans(alloc, scans)),
-            None => NodeRows::Materialized(self.concatenate(alloc, inputs)?),
-        };
+        let rows = self.union_rows(alloc, inputs)?;
         Ok(NodeOutput { width, rows })
+    }
+
+    fn union_rows(&mut self, alloc: Global, inputs: &[u32]) -> Result<NodeRows<'a>, NoMemory>
+        requires { All (λ input. input < length self.old.outputs.items) inputs.now }
+        ensures rows { IfOk result (λ rows. SameBag (rows_of rows)
+            (flat_map (λ bag. bag.rows) (inputs_in self.old inputs.now))) }
+        ensures kept { OnOk result (Keeps self.old self.new) }
+        ensures text { OnOk result (self.new.text ≡ self.old.text) }
+    {
+        match self.scans_of(alloc, inputs)? {
+            Some(scans) => Ok(NodeRows::Pending(Pipeline::of_scans(alloc, scans))),
+            None => {
+                let rows = self.concatenate(alloc, inputs)?;
+                Ok(NodeRows::Materialized(rows))
+            }
+        }
     }
 
     // A join. Its sides are moved where no later node takes either.
@@ -175,7 +208,7 @@ impl<'a> Evaluation<'a> {
     ) -> Result<NodeRows<'a>, NoMemory>
         requires left { left < length self.old.outputs.items }
         requires right { right < length self.old.outputs.items }
-        ensures rows { IfOk result (λ rows. SameBag (rows_of rows) (joined_by rule
+        ensures rows { IfOk result (λ rows. SameBag (rows_of rows) (joined_by rule.entry
             (bag_at self.old.outputs.items left).rows (bag_at self.old.outputs.items right).rows)) }
         ensures kept { OnOk result (Keeps self.old self.new) }
         ensures text { OnOk result (self.new.text ≡ self.old.text) }
@@ -197,12 +230,12 @@ impl<'a> Evaluation<'a> {
         side: u32,
     ) -> Result<NodeRows<'a>, NoMemory>
         requires { side < length self.old.outputs.items }
-        ensures rows { IfOk result (λ rows. SameBag (rows_of rows) (joined_by rule
+        ensures rows { IfOk result (λ rows. SameBag (rows_of rows) (joined_by rule.entry
             (bag_at self.old.outputs.items side).rows (bag_at self.old.outputs.items side).rows)) }
         ensures kept { OnOk result (Keeps self.old self.new) }
         ensures text { OnOk result (self.new.text ≡ self.old.text) }
     {
-        let rows = self.take(alloc, side).rows.materialize(alloc)?;
+        let rows = self.take(alloc, side).materialize(alloc)?;
         let joined = join(alloc, rule.kind, rule.keys, rule.widths, &rows, &rows)?;
         self.keep(side, rows);
         Ok(NodeRows::Materialized(joined))
@@ -219,13 +252,13 @@ impl<'a> Evaluation<'a> {
         requires left { left < length self.old.outputs.items }
         requires right { right < length self.old.outputs.items }
         requires apart { left ≢ right }
-        ensures rows { IfOk result (λ rows. SameBag (rows_of rows) (joined_by rule
+        ensures rows { IfOk result (λ rows. SameBag (rows_of rows) (joined_by rule.entry
             (bag_at self.old.outputs.items left).rows (bag_at self.old.outputs.items right).rows)) }
         ensures kept { OnOk result (Keeps self.old self.new) }
         ensures text { OnOk result (self.new.text ≡ self.old.text) }
     {
-        let left_rows = self.take(alloc, left).rows.materialize(alloc)?;
-        let right_rows = self.take(alloc, right).rows.materialize(alloc)?;
+        let left_rows = self.take(alloc, left).materialize(alloc)?;
+        let right_rows = self.take(alloc, right).materialize(alloc)?;
         let joined = join(
             alloc,
             rule.kind,
@@ -252,13 +285,13 @@ impl<'a> Evaluation<'a> {
         requires apart { left ≢ right }
         requires left_last { is_taken_later self.old left ≡ false }
         requires right_last { is_taken_later self.old right ≡ false }
-        ensures rows { IfOk result (λ rows. SameBag (rows_of rows) (joined_by rule
+        ensures rows { IfOk result (λ rows. SameBag (rows_of rows) (joined_by rule.entry
             (bag_at self.old.outputs.items left).rows (bag_at self.old.outputs.items right).rows)) }
         ensures kept { OnOk result (Keeps self.old self.new) }
         ensures text { OnOk result (self.new.text ≡ self.old.text) }
     {
-        let left_rows = self.take(alloc, left).rows;
-        let right_rows = self.take(alloc, right).rows.materialize(alloc)?;
+        let left_rows = self.take(alloc, left);
+        let right_rows = self.take(alloc, right).materialize(alloc)?;
         left_rows.join(alloc, rule, right_rows)
     }
 
@@ -273,7 +306,7 @@ impl<'a> Evaluation<'a> {
             if self.is_needed(*input, &inputs[at + 1..]) {
                 return Ok(None);
             }
-            match self.outputs[*input as usize].rows.scans() {
+            match self.outputs[*input as usize].scans() {
                 Some(scans) => push_scans(alloc, scans, &mut all)?,
                 None => return Ok(None),
             }
@@ -313,7 +346,7 @@ impl<'a> Evaluation<'a> {
         ensures text { OnOk result (self.new.text ≡ self.old.text) }
     {
         let needed = self.is_needed(input, further);
-        let more = self.take(alloc, input).rows.materialize(alloc)?;
+        let more = self.take(alloc, input).materialize(alloc)?;
         if needed {
             push_copies(alloc, rows, more.as_slice())?;
             self.put_back(input, more);
@@ -330,7 +363,7 @@ impl<'a> Evaluation<'a> {
         ensures kept { OnOk result (Keeps self.old self.new) }
         ensures text { OnOk result (self.new.text ≡ self.old.text) }
     {
-        let rows = self.take(alloc, input).rows;
+        let rows = self.take(alloc, input);
         if !self.is_taken_later(input) {
             return rows.into_lines(alloc);
         }
@@ -351,10 +384,10 @@ impl<'a> Evaluation<'a> {
         self.text.extend(lines.as_slice())
     }
 
-    // Moves the output of a node out, and leaves no rows.
-    fn take(&mut self, alloc: Global, input: u32) -> NodeOutput<'a>
+    // Moves the rows of a node out, and leaves none.
+    fn take(&mut self, alloc: Global, input: u32) -> NodeRows<'a>
         requires { input < length self.old.outputs.items }
-        ensures output { result ≡ bag_at self.old.outputs.items input }
+        ensures rows { rows_of result ≡ (bag_at self.old.outputs.items input).rows }
         ensures left { self.new.outputs.items
             ≡ slice_set self.old.outputs.items input (bag_with (bag_at self.old.outputs.items input).width []) }
         ensures last { self.new.last.items ≡ self.old.last.items }

@@ -1,12 +1,12 @@
-ghost use Rattle.std.specs.Prelude.{◌≡◌, ◌∷◌, [], ℕ, List, IfOk, IsTrue};
-ghost use Rattle.plan_model.specs.Nodes.{IsGood};
-ghost use Rattle.plan_model.specs.Operators.{is_unary};
-ghost use Rattle.plan_eval.specs.Evaluated.{IsOutput, bag_with};
+ghost use Rattle.std.specs.Prelude.{◌≡◌, [], IfSome};
+ghost use Rattle.std.specs.List.{flat_map};
+ghost use Rattle.plan_eval.specs.Evaluated.{bag_with};
+ghost use Rattle.plan_eval.specs.Outputs.{rows_of};
+ghost use Rattle.plan_eval.specs.Pipelines.{scan_rows};
 
 use crate::node_rows::NodeRows;
-use op_unary::apply_owned;
-use plan_model::Op;
-use row_core::{NoMemory, Rows};
+use crate::scan::Scan;
+use row_core::Rows;
 use std::alloc::Global;
 use std::marker::Model;
 use std::mem;
@@ -28,34 +28,19 @@ impl<'a> Model for NodeOutput<'a> {
 }
 
 impl<'a> NodeOutput<'a> {
-    pub fn materialized(width: u32, rows: Rows) -> Self
-        ensures { result ≡ bag_with width rows }
-    {
-        let rows = NodeRows::Materialized(rows);
-        NodeOutput { width, rows }
-    }
-
-    /// Moves the output out, and leaves no rows.
-    pub fn take(&mut self, alloc: Global) -> NodeOutput<'a>
-        ensures output { result ≡ self.old }
+    /// Moves the rows out, and leaves none.
+    pub fn take(&mut self, alloc: Global) -> NodeRows<'a>
+        ensures rows { rows_of result ≡ self.old.rows }
         ensures left { self.new ≡ bag_with self.old.width [] }
     {
-        let left = NodeOutput::materialized(self.width, Rows::new(alloc));
-        mem::replace(self, left)
+        let none = NodeRows::Materialized(Rows::new(alloc));
+        mem::replace(&mut self.rows, none)
     }
 
-    /// What an operator gives on the rows, which it takes.
-    pub fn apply(self, alloc: Global, op: &'a Op) -> Result<NodeOutput<'a>, NoMemory>
-        requires unary { IsTrue (is_unary op.now) }
-        requires good { IsGood op.now (self ∷ []) }
-        ensures { IfOk result (λ output. (files : List ℕ → List (List ℕ))
-            → IsOutput files op.now (self.entry ∷ []) output) }
+    /// The scans of which a pipeline without stages gives the rows, one after the other.
+    pub fn scans(&self) -> Option<&[Scan<'a>]>
+        ensures { IfSome result (λ scans. flat_map scan_rows scans.now ≡ self.now.rows) }
     {
-        let width = op.width(&[self.width]) as u32;
-        let rows = match self.rows {
-            NodeRows::Materialized(rows) => NodeRows::Materialized(apply_owned(alloc, op, rows)?),
-            NodeRows::Pending(pipeline) => pipeline.run(alloc, op)?,
-        };
-        Ok(NodeOutput { width, rows })
+        self.rows.scans()
     }
 }

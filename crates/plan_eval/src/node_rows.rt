@@ -1,15 +1,19 @@
-ghost use Rattle.std.specs.Prelude.{◌≡◌, IfOk, IfSome};
+ghost use Rattle.std.specs.Prelude.{◌≡◌, IfOk, IfSome, IsTrue};
 ghost use Rattle.std.specs.List.{flat_map};
 ghost use Rattle.row_core.specs.Bags.{SameBag};
+ghost use Rattle.operator_laws.specs.Applied.{applied};
+ghost use Rattle.plan_model.specs.Operators.{is_unary};
 ghost use Rattle.plan_model.specs.Sinks.{sorted_lines};
 ghost use Rattle.plan_eval.specs.Outputs.{rows_of};
-ghost use Rattle.plan_eval.specs.Pipelines.{joined_by, scan_rows};
+ghost use Rattle.plan_eval.specs.Pipelines.{FindsColumns, joined_by, scan_rows};
 
 use crate::join_rule::JoinRule;
 use crate::pipeline::Pipeline;
 use crate::scan::Scan;
 use csv_tables::sink_text_owned;
 use op_join::join_owned;
+use op_unary::apply_owned;
+use plan_model::Op;
 use row_core::{Bytes, NoMemory, Rows};
 use std::alloc::Global;
 
@@ -41,6 +45,21 @@ impl<'a> NodeRows<'a> {
         }
     }
 
+    /// What a unary operator gives on the rows, which it takes.
+    pub fn apply(self, alloc: Global, op: &'a Op) -> Result<NodeRows<'a>, NoMemory>
+        requires unary { IsTrue (is_unary op.now) }
+        requires columns { FindsColumns op.now (rows_of self) }
+        ensures { IfOk result (λ rows. SameBag (rows_of rows) (applied op.now (rows_of self.entry))) }
+    {
+        match self {
+            NodeRows::Materialized(rows) => {
+                let rows = apply_owned(alloc, op, rows)?;
+                Ok(NodeRows::Materialized(rows))
+            }
+            NodeRows::Pending(pipeline) => pipeline.run(alloc, op),
+        }
+    }
+
     /// The lines of a sink. A pipeline's rows are let go batch by batch, when their lines stand.
     pub fn into_lines(self, alloc: Global) -> Result<Bytes, NoMemory>
         ensures { IfOk result (λ lines. lines ≡ sorted_lines (rows_of self.entry)) }
@@ -58,7 +77,8 @@ impl<'a> NodeRows<'a> {
         rule: JoinRule<'a>,
         right: Rows,
     ) -> Result<NodeRows<'a>, NoMemory>
-        ensures { IfOk result (λ rows. SameBag (rows_of rows) (joined_by rule (rows_of self.entry) right)) }
+        ensures { IfOk result (λ rows. SameBag (rows_of rows)
+            (joined_by rule.entry (rows_of self.entry) right)) }
     {
         match self {
             NodeRows::Pending(pipeline) if rule.kind.repeats_right() => {

@@ -124,7 +124,7 @@ impl<'a> Pipeline<'a> {
     /// The join of the rows, as the probe side, with a build side.
     pub fn join(mut self, rule: JoinRule<'a>, right: Rows) -> Result<Self, NoMemory>
         requires { IsTrue (repeats_right rule.kind) }
-        ensures { IfOk result (λ pipeline. pipeline ≡ joined_by rule self.entry right) }
+        ensures { IfOk result (λ pipeline. pipeline ≡ joined_by rule.entry self.entry right) }
     {
         self.stages.push(Stage::Join { rule, right })?;
         Ok(self)

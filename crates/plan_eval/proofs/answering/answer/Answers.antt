@@ -22,7 +22,7 @@ run-requires c =
     let e = c.loop-node.evaluation in
     let here = c.loop-node.invariant in
     let sound : IsGoodNode (take k nodes) node =
-        good_node nodes k node c.nodes-nodes.ensures.faultless (node_read nodes k node c.loop-node-test.true c.node-item.is) in
+    good_node nodes k node c.nodes-nodes.ensures.faultless (node_read nodes k node c.loop-node-test.true c.node-item.is) in
     let taken = taken_here nodes e.last.items k node here.last c.loop-node-test.true c.node-item.is sound in
     record {
       earlier = earlier (files_of c.args.tables.now) e.last.items (take k nodes) e.outputs.items here.evaluated node sound taken;
@@ -51,7 +51,7 @@ loop-node-preserved c =
     let bag = c.in_ok-output.output in
     let same_last = c.in_ok-push.ensures.last ∙ ran.kept.last in
     let kept : Stays (λ place. nat_lt (length before) (get_or last place 0) ≡ true) bags stays =
-        subst (λ (n : ℕ). Stays (λ place. nat_lt n (get_or last place 0) ≡ true) bags stays) (long_found files last before bags so_far) ran.kept.outputs in
+    subst (λ (n : ℕ). Stays (λ place. nat_lt n (get_or last place 0) ≡ true) bags stays) (long_found files last before bags so_far) ran.kept.outputs in
     record {
       last = subst (λ (last : List ℕ). AreLast nodes last) (sym same_last) here.last;
       evaluated = subst (λ (last : List ℕ). IsEvaluated files last (take (k + 1) nodes) c.push.new.self.outputs.items) (sym same_last)
