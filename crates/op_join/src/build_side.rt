@@ -2,12 +2,10 @@ ghost use Rattle.std.specs.Prelude.{◌≡◌, List, IsTrue, IfOk};
 ghost use Rattle.row_core.specs.Bags.{SameBag};
 ghost use Rattle.bag_laws.specs.Rows.{OneRow};
 ghost use Rattle.plan_model.specs.Joins.{joined};
-ghost use Rattle.op_join.specs.Sides.{goes_by_left};
 ghost use Rattle.op_join.specs.Builds.{probe};
+ghost use Rattle.plan_model.specs.Operators.{repeats_right};
 
-use crate::keyed::Keyed;
-use crate::matching::by_other_key;
-use crate::moving::move_sorted;
+use crate::probe::Probe;
 use crate::rule::left_rule;
 use plan_model::{JoinKind, KeyPairs, Widths};
 use row_core::{NoMemory, Row, Rows};
@@ -21,22 +19,31 @@ pub struct BuildSide<'a> {
     kind: JoinKind,
     keys: &'a [(u32, u32)],
     widths: Widths,
-    /// As they came. Only contracts speak of them.
+    // as they came; only contracts speak of them
     rows: &'a [Row],
-    sorted: Vec<Keyed<'a>>,
+    probe: Probe<'a>,
 }
 
 impl<'a> Model for BuildSide<'a> {
-    ghost use Rattle.std.specs.Prelude.{IsTrue};
-    ghost use Rattle.op_join.specs.Keys.{AreInOrder};
-    ghost use Rattle.op_join.specs.Sides.{goes_by_left};
+    ghost use Rattle.std.specs.Prelude.{List};
+    ghost use Rattle.row_core.specs.Bags.{SameBag};
+    ghost use Rattle.bag_laws.specs.Rows.{OneRow};
+    ghost use Rattle.plan_model.specs.Joins.{joined};
     ghost use Rattle.op_join.specs.Builds.{JoinBuild};
+    ghost use Rattle.op_join.specs.Probes.{probe_outputs};
 
     ghost Value = { JoinBuild };
 
-    ghost view = { λ side. record { kind = side.kind; keys = side.keys.now; left_width = side.widths.left; right_width = side.widths.right; right = side.rows.now } };
+    ghost view = { λ side. record {
+      kind = side.kind;
+      keys = side.keys.now;
+      right = side.rows.now;
+      left_width = side.widths.left;
+      right_width = side.widths.right;
+    } };
 
-    ghost invariant = { λ side. IsTrue (goes_by_left side.kind) × AreInOrder side.keys.now side.rows.now side.sorted.items };
+    ghost invariant = { λ side. (left : List OneRow) → SameBag (probe_outputs side.probe left)
+        (joined side.keys.now side.widths.left side.widths.right left side.rows.now side.kind) };
 }
 
 impl<'a> BuildSide<'a> {
@@ -48,18 +55,19 @@ impl<'a> BuildSide<'a> {
         widths: Widths,
         right: &'a Rows,
     ) -> Result<Self, NoMemory>
-        requires { IsTrue (goes_by_left kind) }
-        ensures { IfOk result (λ side. (left : List OneRow) → probe side left ≡ joined keys.now widths.left widths.right left right.now kind) }
+        requires { IsTrue (repeats_right kind) }
+        ensures { IfOk result (λ side. (left : List OneRow) → probe side left
+            ≡ joined keys.now widths.left widths.right left right.now kind) }
     {
         let keys = keys.as_slice();
         let rows = right.as_slice();
-        let sorted = by_other_key(alloc, keys, rows)?;
+        let probe = Probe::by_left(alloc, left_rule(kind), widths.right, keys, rows)?;
         Ok(BuildSide {
             kind,
             keys,
             widths,
             rows,
-            sorted,
+            probe,
         })
     }
 
@@ -67,13 +75,6 @@ impl<'a> BuildSide<'a> {
     pub fn probe(&self, alloc: Global, left: Rows) -> Result<Rows, NoMemory>
         ensures { IfOk result (λ rows. SameBag rows (probe self.now left)) }
     {
-        move_sorted(
-            alloc,
-            left_rule(self.kind),
-            self.widths.right,
-            self.keys,
-            left,
-            self.sorted.as_slice(),
-        )
+        self.probe.rows_owned(alloc, left)
     }
 }

@@ -12,7 +12,7 @@ use Rattle.bag_laws.specs.Rows.{OneRow as Row}
 use Rattle.op_unary.specs.Accumulators.{merge, accumulator_of, finish}
 use Rattle.op_unary.specs.declared.accumulator.Accumulator.{Accumulator}
 use Rattle.op_unary.specs.declared.accumulator.Accumulator.TheVariants.{Counted, Summed, Least, Greatest}
-use Rattle.op_unary.proofs.Orders.{lesser-assoc, greater-assoc, greater-null}
+use Rattle.operator_laws.proofs.Laws.{lesser-assoc, greater-assoc, greater-null}
 use Rattle.op_unary.proofs.Sums.{above_none, numbers-append, any-append, sum-append}
 
 least-append : (xs ys : List Value) → least (xs ++ ys) ≡ lesser_value (least xs) (least ys)

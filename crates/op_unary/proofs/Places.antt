@@ -7,8 +7,8 @@ use Rattle.std.proofs.lemmas.List.Elements.{All-nil, All-cons, All-head, All-tai
 use Rattle.std.specs.List.{items_where_true}
 use Rattle.row_core.specs.Bags.{SameBag, one_of_each}
 use Rattle.bag_laws.specs.Rows.{OneRow as Row}
-use Rattle.bag_laws.proofs.Alike.{same_on, same_refl, same_sym}
-use Rattle.bag_laws.proofs.Counts.{SameBag-append}
+use Rattle.bag_laws.proofs.Laws.{same_on, same_refl, same_sym}
+use Rattle.bag_laws.proofs.Laws.{SameBag-append}
 use Rattle.op_unary.specs.Distinct.{moved, rank, row_at, ArePlaces, IsOrder}
 use Rattle.op_unary.specs.Hashes.{hash_of}
 use Rattle.op_unary.specs.declared.hashed_row.HashedRow.{HashedRow}

@@ -6,8 +6,8 @@ use Rattle.std.specs.List.{dedup, dedup_from}
 use Rattle.row_core.specs.Bags.{SameBag, count_of, one_of_each}
 use Rattle.row_core.specs.Values.{same_row}
 use Rattle.bag_laws.specs.Rows.{OneRow as Row}
-use Rattle.bag_laws.proofs.Counts.{count-cons, count-one_of_each}
-use Rattle.bag_laws.proofs.Orders.{same_row_is}
+use Rattle.bag_laws.proofs.Laws.{count-cons, count-one_of_each}
+use Rattle.bag_laws.proofs.Laws.{same_row_is}
 use Rattle.op_unary.specs.Distinct.{row_at, ArePlaces, Rises}
 use Rattle.op_unary.specs.Hashes.{hash_of}
 use Rattle.op_unary.specs.declared.hashed_row.HashedRow.{HashedRow}

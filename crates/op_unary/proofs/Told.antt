@@ -11,18 +11,18 @@ use Rattle.row_core.specs.Values.{same_row}
 use Rattle.plan_model.specs.Operators.{agg_value, aggregated, key_of, rows_with}
 use Rattle.plan_model.specs.declared.agg.Agg.{Agg}
 use Rattle.bag_laws.specs.Rows.{OneRow as Row, AreApart}
-use Rattle.bag_laws.proofs.Alike.{same_refl, same_sym, same_on, by_weights}
-use Rattle.bag_laws.proofs.Counts.{SameBag-append}
-use Rattle.bag_laws.proofs.Orders.{rows_strict}
-use Rattle.bag_laws.proofs.Permutations.{permutation_of_same}
-use Rattle.bag_laws.proofs.Totals.{total, total_is, total-flat_map}
+use Rattle.bag_laws.proofs.Laws.{same_refl, same_sym, same_on, by_weights}
+use Rattle.bag_laws.proofs.Laws.{SameBag-append}
+use Rattle.bag_laws.proofs.Laws.{rows_strict}
+use Rattle.bag_laws.proofs.Laws.{permutation_of_same}
+use Rattle.bag_laws.proofs.Laws.{total, total_is, total-flat_map}
 use Rattle.op_unary.specs.Groups.{AllDiffer, AreTold, TellsOf, key_count}
 use Rattle.op_unary.specs.Accumulators.{finish}
 use Rattle.op_unary.specs.declared.group.Group.{Group}
 use Rattle.op_unary.proofs.Merges.{all_told}
 use Rattle.op_unary.proofs.Parts.{as_long}
 use Rattle.op_unary.proofs.Runs.{one_group}
-use Rattle.op_unary.proofs.Sames.{aggregated_keyed}
+use Rattle.operator_laws.proofs.Laws.{aggregated_keyed}
 
 same_lists : {xs ys : List Row} → xs ≡ ys → SameBag xs ys
 same_lists {xs} {ys} e = subst (λ (l : List Row). SameBag xs l) e (same_refl xs)

@@ -5,6 +5,7 @@
 mod accumulating;
 mod accumulator;
 mod aggregating;
+mod by_row;
 mod cells;
 mod distinct_rows;
 mod each_once;
@@ -16,9 +17,9 @@ mod grouping;
 mod groups;
 mod hashed_row;
 mod hashing;
+mod input_row;
 mod keyed;
 mod keys;
-mod laws;
 mod marking;
 mod merging;
 mod merging_groups;
@@ -29,7 +30,4 @@ mod tests;
 
 pub use distinct_rows::DistinctRows;
 pub use groups::Groups;
-pub use laws::{
-    bags_are_kept, distinct_goes_by_parts, groups_go_by_keys, nodes_apply, rows_go_alone,
-};
 pub use operators::{apply, apply_owned};

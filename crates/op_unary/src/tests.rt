@@ -1,6 +1,6 @@
 ghost use Rattle.std.specs.Prelude.{◌∷◌, [], All, IsTrue, length};
 ghost use Rattle.plan_model.specs.Checks.{columns_fit};
-ghost use Rattle.op_unary.specs.Applied.{is_unary};
+ghost use Rattle.plan_model.specs.Operators.{is_unary};
 
 use crate::hashing::hash_row;
 use crate::{DistinctRows, Groups, apply, apply_owned};

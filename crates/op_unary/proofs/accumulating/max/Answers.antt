@@ -5,7 +5,7 @@ use Rattle.row_core.specs.declared.value.Value.TheVariants.{Null}
 use Rattle.plan_model.specs.Operators.{column_of, greatest, greater_value}
 use Rattle.op_unary.specs.declared.keyed.Keyed.{Keyed}
 use Rattle.op_unary.specs.Cells.{or_null}
-use Rattle.op_unary.proofs.Orders.{greater-assoc, greater-null}
+use Rattle.operator_laws.proofs.Laws.{greater-assoc, greater-null}
 use Rattle.op_unary.proofs.accumulating.max.Goals as goal
 
 pub loop-keyed-preserved : goal.loop-keyed-preserved

@@ -5,7 +5,7 @@ use Rattle.row_core.specs.declared.value.Value.TheVariants.{Null}
 use Rattle.plan_model.specs.Operators.{column_of, least, lesser_value}
 use Rattle.op_unary.specs.declared.keyed.Keyed.{Keyed}
 use Rattle.op_unary.specs.Cells.{or_null}
-use Rattle.op_unary.proofs.Orders.{lesser-assoc}
+use Rattle.operator_laws.proofs.Laws.{lesser-assoc}
 use Rattle.op_unary.proofs.accumulating.min.Goals as goal
 
 pub loop-keyed-preserved : goal.loop-keyed-preserved

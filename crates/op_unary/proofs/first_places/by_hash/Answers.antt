@@ -7,9 +7,9 @@ use Rattle.std.specs.Prelude.{All, Bool}
 use Rattle.row_core.specs.Bags.{SameBag, one_of_each}
 use Rattle.row_core.specs.Values.{same_row}
 use Rattle.bag_laws.specs.Rows.{OneRow as Row}
-use Rattle.bag_laws.proofs.Alike.{same_on, same_sym}
-use Rattle.bag_laws.proofs.Counts.{SameBag-one_of_each}
-use Rattle.bag_laws.proofs.Permutations.{same_of_permutation}
+use Rattle.bag_laws.proofs.Laws.{same_on, same_sym}
+use Rattle.bag_laws.proofs.Laws.{SameBag-one_of_each}
+use Rattle.bag_laws.proofs.Laws.{same_of_permutation}
 use Rattle.op_unary.specs.declared.hashed_row.HashedRow.{HashedRow}
 use Rattle.op_unary.specs.Distinct.{row_at}
 use Rattle.op_unary.specs.Hashes.{hash_of}

@@ -10,9 +10,9 @@ use Rattle.bag_laws.specs.Rows.{OneRow as Row}
 use Rattle.op_unary.specs.declared.hashed_row.HashedRow.{HashedRow}
 use Rattle.op_unary.specs.Distinct.{row_at}
 use Rattle.op_unary.specs.Hashes.{hash_of}
-use Rattle.op_unary.proofs.ByHash.{hash_less, beside_total, rows_in_order}
+use Rattle.op_unary.proofs.ByHash.{hash_less, hash_strict, beside_total, rows_in_order}
 use Rattle.op_unary.proofs.Deduped.{ties, dedup_ties}
-use Rattle.op_unary.proofs.Firsts.{firsts_are}
+use Rattle.bag_laws.proofs.Laws.{dedup_is}
 use Rattle.op_unary.proofs.Runs.{dedup_map, sorted_map}
 use Rattle.op_unary.proofs.first_places.by_row.Goals as goal
 
@@ -49,4 +49,4 @@ returns-clause-each c =
     dedup_same _ (tie_at rows) _ (λ x y b f' x' y' k. search rules) items c.dedup_by.new.self.items c.dedup_by.ensures.filtered in
     let kept : map row c.dedup_by.new.self.items ≡ dedup same_row (map row items) = ap (map row) (left ∙ dedup_ties hash_in row items theirs) ∙ dedup_map row items in
     subst (λ (l : List Row). SameBag l (one_of_each (map row places))) (sym kept)
-    (firsts_are (map row places) (map row items) (IsPermutation-map row places items c.sort_unstable_by.ensures.permutation) up)
+    (dedup_is hash_less hash_strict (map row places) (map row items) (IsPermutation-map row places items c.sort_unstable_by.ensures.permutation) up)

@@ -1,8 +1,8 @@
 use Rattle.std.proofs.Common.{List, length, map, subst, take_all, arith}
 use Rattle.row_core.specs.Bags.{SameBag, one_of_each}
 use Rattle.bag_laws.specs.Rows.{OneRow as Row}
-use Rattle.bag_laws.proofs.Alike.{same_on}
-use Rattle.bag_laws.proofs.Counts.{SameBag-one_of_each}
+use Rattle.bag_laws.proofs.Laws.{same_on}
+use Rattle.bag_laws.proofs.Laws.{SameBag-one_of_each}
 use Rattle.op_unary.specs.Distinct.{row_at, Rises}
 use Rattle.op_unary.specs.declared.hashed_row.HashedRow.{HashedRow}
 use Rattle.op_unary.proofs.Rising.{rising_differ}

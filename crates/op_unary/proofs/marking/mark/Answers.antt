@@ -6,7 +6,7 @@ use Rattle.std.specs.Prelude.{All, Bool}
 use Rattle.std.specs.List.{items_where_true}
 use Rattle.row_core.specs.Bags.{SameBag}
 use Rattle.bag_laws.specs.Rows.{OneRow as Row}
-use Rattle.bag_laws.proofs.Alike.{same_on, same_refl}
+use Rattle.bag_laws.proofs.Laws.{same_on, same_refl}
 use Rattle.op_unary.specs.declared.hashed_row.HashedRow.{HashedRow}
 use Rattle.op_unary.specs.Distinct.{row_at}
 use Rattle.op_unary.proofs.Marks.{mark_more, none_marked, set_more}

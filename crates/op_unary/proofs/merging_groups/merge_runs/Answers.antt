@@ -6,8 +6,8 @@ use Rattle.std.specs.Prelude.{false}
 use Rattle.std.specs.Vec.Iter.{into_iter_items}
 use Rattle.row_core.specs.Values.{same_row}
 use Rattle.bag_laws.specs.Rows.{OneRow as Row}
-use Rattle.bag_laws.proofs.Orders.{same_row_is}
-use Rattle.bag_laws.proofs.Sorted.{ascends_from}
+use Rattle.bag_laws.proofs.Laws.{same_row_is}
+use Rattle.bag_laws.proofs.Laws.{ascends_from}
 use Rattle.op_unary.specs.Groups.{AllDiffer, AreTold}
 use Rattle.op_unary.specs.declared.group.Group.{Group}
 use Rattle.op_unary.proofs.ByHash.{hash_less, hash_strict}
