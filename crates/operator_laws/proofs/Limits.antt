@@ -1,22 +1,21 @@
 -- Values within their limits give such values, through each operator.
-use Rattle.std.proofs.Common.{◌≡◌, ℕ, zero, suc, ◌+◌, ◌<◌, ◌≤◌, ◌^◌, Bool, true, false, cond, List, [], ◌∷◌, ◌++◌, length, map, get_or, refl, sym, subst, ◌∙◌, ap, arith, All, Option, Some, None, if◌then◌else◌}
+use Rattle.std.proofs.Common.{◌≡◌, ℕ, zero, suc, ◌<◌, ◌≤◌, ◌^◌, Bool, true, false, List, [], ◌∷◌, ◌++◌, length, map, get_or, refl, sym, subst, arith, All, Option, Some, None, if◌then◌else◌}
 use Rattle.std.proofs.lemmas.Bool.{leb-true, ltb-true}
 use Rattle.std.proofs.lemmas.Fmt.{length_signed_le}
 use Rattle.std.proofs.lemmas.Int.{ints}
-use Rattle.std.proofs.lemmas.List.Elements.{All-nil, All-cons, All-head, All-tail, All-append, All-filter, All-map, All-get_or, All-from_recursion}
+use Rattle.std.proofs.lemmas.List.Elements.{All-nil, All-cons, All-head, All-tail, All-append, All-filter, All-map}
 use Rattle.std.specs.Fmt.{signed_decimal}
-use Rattle.std.specs.Int.{w64}
 use Rattle.std.specs.Int.Signed.{mag}
 use Rattle.std.specs.List.{flat_map, filter, AllByRecursion}
 use Rattle.std.specs.Ordering.{is_lt}
 use Rattle.std.specs.Str.{all_ascii_digits}
 use Rattle.std.specs.Str.Parse.{digits_value}
-use Rattle.std.specs.Prelude.{ℤ, pos, negsuc, neg_ℤ, ◌+ℤ◌, ◌-ℤ◌, ◌*ℤ◌, nat_lt, nat_le, not, replicate, slice_set, ◌==◌, FitsSigned}
+use Rattle.std.specs.Prelude.{ℤ, pos, negsuc, neg_ℤ, ◌+ℤ◌, ◌-ℤ◌, ◌*ℤ◌, nat_lt, nat_le, not, slice_set, ◌==◌}
 use Rattle.row_core.specs.Bags.{one_of_each}
 use Rattle.row_core.specs.Encoding.{TextFits, ValueFits}
 use Rattle.row_core.specs.Exprs.{value_at, value_step, on_ints, truth_of, is_yes}
 use Rattle.row_core.specs.Values.{value_cmp, same_row, int_value, text_value, text_of, concatenated}
-use Rattle.row_core.specs.declared.expr.Expr.{Expr, Col, Const}
+use Rattle.row_core.specs.declared.expr.Expr.{Expr}
 use Rattle.row_core.specs.declared.expr.Expr.TheOpen.{Expr-F}
 use Rattle.row_core.specs.declared.expr.Expr.TheFolds.{fold-roll-Expr, ind-Expr, map-Expr}
 use Rattle.row_core.specs.declared.expr.Expr.TheViews.{roll-Expr}
@@ -25,8 +24,8 @@ use Rattle.row_core.specs.declared.value.Value.{Value}
 use Rattle.row_core.specs.declared.value.Value.TheVariants.{Null, Int, Text}
 use Rattle.bag_laws.specs.Rows.{OneRow as Row}
 use Rattle.plan_model.specs.Joins.{matches, nulls, or_padded, if_matched, if_unmatched, joined}
-use Rattle.plan_model.specs.Operators.{with_byte, pieces, with_pieces, column_of, numbers_of, whole_sum, sum_value, lesser_value, greater_value, least, greatest, agg_value, rows_with, key_of}
-use Rattle.plan_model.specs.Plans.{Bag, bag_at, bag_of, empty_bag}
+use Rattle.plan_model.specs.Operators.{with_byte, pieces, with_pieces, column_of, numbers_of, whole_sum, sum_value, lesser_value, least, greatest, agg_value, rows_with, key_of}
+use Rattle.plan_model.specs.Plans.{Bag, bag_at, bag_of}
 use Rattle.plan_model.specs.Tables.{cell_value, digits_cell, int_cell, row_of, signed_value, table_rows}
 use Rattle.plan_model.specs.declared.agg.Agg.{Agg}
 use Rattle.plan_model.specs.declared.agg.Agg.TheVariants.{Count, Sum, Min, Max}

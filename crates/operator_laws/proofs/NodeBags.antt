@@ -1,5 +1,5 @@
 -- Equal bags of a node's inputs give equal bags of the node.
-use Rattle.std.proofs.Common.{◌≡◌, ℕ, suc, List, [], ◌∷◌, refl, subst}
+use Rattle.std.proofs.Common.{ℕ, suc, List, [], ◌∷◌, refl, subst}
 use Rattle.std.specs.List.{flat_map}
 use Rattle.row_core.specs.Bags.{SameBag}
 use Rattle.bag_laws.specs.Rows.{OneRow as Row}

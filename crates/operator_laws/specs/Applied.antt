@@ -4,9 +4,11 @@ use Rattle.row_core.specs.Bags.{one_of_each}
 use Rattle.bag_laws.specs.Rows.{OneRow as Row}
 use Rattle.plan_model.specs.Operators.{filtered, projected, exploded, aggregated}
 use Rattle.plan_model.specs.declared.op.Op.{Op}
-use Rattle.plan_model.specs.declared.op.Op.TheVariants.{Filter, Project, Explode, Aggregate, Distinct}
+use Rattle.plan_model.specs.declared.op.Op.TheVariants.{Filter, Project, Explode}
+use Rattle.plan_model.specs.declared.op.Op.TheVariants.{Aggregate, Distinct}
 
--- the rows of a unary operator, where the inputs of a union stand one after the other; others pass rows on
+-- the rows of a unary operator, where the inputs of a union stand one after the other; others pass
+-- rows on
 abbrev pub applied : Op → List Row → List Row
 applied (Filter test) rows = filtered test rows
 applied (Project exprs) rows = projected exprs rows

@@ -7,16 +7,16 @@ ghost use Rattle.plan_model.specs.Operators.{aggregated, key_of};
 ghost use Rattle.plan_model.specs.declared.agg.Agg.{Agg as OneAgg};
 ghost use Rattle.operator_laws.specs.Applied.{left_columns, right_columns};
 
-/// Distinct and aggregate go by keys: nothing from nothing, the same for the same bag, and for two parts whose keys are
-/// apart what they give on each.
+/// Distinct and aggregate go by keys: nothing from nothing, the same for the same bag, and for two
+/// parts whose keys are apart what they give on each.
 pub fn groups_go_by_keys()
     ensures distinct { IsKeyed same_row one_of_each }
     ensures aggregate { (keys : List ℕ) (aggs : List OneAgg)
         → IsKeyed (λ a b. same_row (key_of keys a) (key_of keys b)) (aggregated keys aggs) }
 {}
 
-/// One of each of two parts goes by one of each of the first, so rows of it that came before may be let go, and by the
-/// bag of the second.
+/// One of each of two parts goes by one of each of the first, so rows of it that came before may be
+/// let go, and by the bag of the second.
 pub fn distinct_goes_by_parts()
     ensures first { (rows others more : List OneRow)
         → SameBag (one_of_each rows) (one_of_each others)

@@ -1,5 +1,6 @@
-//! The laws of a plan's operators, each once: they go by the bags of their inputs, row by row or by keys, and keep
-//! values within their limits.
+//! The laws of a plan's operators, each once: they go by the bags of their inputs, row by row or by
+//! keys, and keep values within their limits. A law is the contract of a function with an empty
+//! body; a proof of another crate cites it by its name in proofs/Laws.
 #![tactic(auto)]
 
 mod bags;

@@ -11,7 +11,8 @@ ghost use Rattle.operator_laws.specs.Applied.{applied};
 ghost use Rattle.plan_model.specs.Nodes.{Alike, sink_at};
 ghost use Rattle.plan_model.specs.Operators.{is_unary};
 
-/// The rows of a plan's node are what its operator gives on the rows of its inputs, one input after the other.
+/// The rows of a plan's node are what its operator gives on the rows of its inputs, one input after
+/// the other.
 pub fn nodes_apply()
     ensures { (files : List ℕ → List (List ℕ)) (op : OneOp) (inputs : List Bag)
         → IsTrue (is_unary op) → IsTrue (takes op (length inputs))

@@ -8,8 +8,8 @@ ghost use Rattle.plan_model.specs.declared.op.Op.{Op as OneOp};
 ghost use Rattle.operator_laws.specs.Applied.{applied};
 ghost use Rattle.plan_model.specs.Operators.{is_row_wise, repeats_left, repeats_right};
 
-/// Filter, project, explode and union go row by row: what they give on a list is what they give on each row in turn,
-/// and on a sum the sum of what they give on each part.
+/// Filter, project, explode and union go row by row: what they give on a list is what they give on
+/// each row in turn, and on a sum the sum of what they give on each part.
 pub fn rows_go_alone()
     ensures each { (op : OneOp) (rows : List OneRow) → IsTrue (is_row_wise op)
         → applied op rows ≡ flat_map (λ row. applied op (row ∷ [])) rows }
@@ -17,8 +17,8 @@ pub fn rows_go_alone()
         → applied op (rows ++ others) ≡ applied op rows ++ applied op others }
 {}
 
-/// Left rows go alone where the right side may be repeated: nothing comes of none, of two parts what each gives, and so
-/// of all rows what each gives by itself.
+/// Left rows go alone where the right side may be repeated: nothing comes of none, of two parts
+/// what each gives, and so of all rows what each gives by itself.
 pub fn left_rows_go_alone()
     ensures none { (kind : OneKind) (keys : List (ℕ × ℕ)) (left_width right_width : ℕ)
         (right : List OneRow) → IsTrue (repeats_right kind)

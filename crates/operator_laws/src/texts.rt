@@ -7,9 +7,9 @@ ghost use Rattle.plan_model.specs.declared.op.Op.{Op as OneOp};
 ghost use Rattle.operator_laws.specs.Applied.{applied};
 ghost use Rattle.operator_laws.specs.Texts.{ConstantsFit, TextsFit, ValuesFit};
 
-/// Values stay within their limits: of rows of numbers of 64 bits and texts that can be encoded come such rows, where
-/// the constants are such, and a table's rows are such. A cell that explode cuts may be a number, so that texts alone
-/// would not do.
+/// Values stay within their limits: of rows of numbers of 64 bits and texts that can be encoded
+/// come such rows, where the constants are such, and a table's rows are such. A cell that explode
+/// cuts may be a number, so that texts alone would not do.
 pub fn texts_are_kept()
     ensures unary { (op : OneOp) (rows : List OneRow)
         → ConstantsFit op → ValuesFit rows → ValuesFit (applied op rows) }

@@ -20,7 +20,7 @@ All-gathered P zero f each = All-nil P
 All-gathered P (suc n) f each = All-append P (gathered n f) (f n) (All-gathered P n f (λ k lt. each k (omega arith))) (each n (omega arith))
 
 module _ (meets : Row → Row → Bool) (op : List Row → List Row) (keyed : IsKeyed meets op)
-    (grid : Grid) (rows : ℕ → ℕ → List Row) (in_column : MeetsInColumn meets grid rows) where
+    (grid : Grid) (rows : ℕ → ℕ → List Row) (in_column : MeetsInColumn meets (record { grid = grid; rows = rows })) where
   abbrev column : ℕ → List Row
   column s = gathered grid.producers (λ p. rows p s)
 

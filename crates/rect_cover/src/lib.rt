@@ -1,5 +1,6 @@
-//! Which subtasks of a vertex read which cells of its inputs: grids, rects of cells, and the assignments that are covers.
-//! For every cover the sum over the subtasks of a vertex's operators is its operators on the whole; the laws say it.
+//! Which subtasks of a vertex read which cells of its inputs: grids, rects of cells, and the
+//! assignments that are covers. For every cover the sum over the subtasks of a vertex's operators
+//! is its operators on the whole; the laws say it.
 #![tactic(auto)]
 
 mod all_subtasks;
