@@ -156,7 +156,7 @@ rows_apart e now k place left apart =
 
 module _ (e taken : Evaluation) (k : ℕ) (left : taken.outputs.items ≡ set e.outputs.items k (bag_with (bag_at e.outputs.items k).width []))
     (last : taken.last.items ≡ e.last.items) where
-  out_here : Out (λ place. ⊤ × (place ≢ k)) e taken
+  pub out_here : Out (λ place. ⊤ × (place ≢ k)) e taken
   out_here = out_take (λ place. ⊤) e e taken k (out_none e) left last
 
   -- rows that nobody takes later are out
@@ -181,18 +181,18 @@ keeps_both e first both left right one last_one two last_two left_last right_las
     (out_take (λ place. ⊤ × (place ≢ left)) e first both right (out_here e first left one last_one) two last_two)
 
 -- both are back, where they are taken later
-pub keeps_both_back : (e first both then last : Evaluation) (left right : ℕ) (left_rows right_rows : List Row) → left < length e.outputs.items → right < length e.outputs.items
+pub keeps_both_back : (e first both mid last : Evaluation) (left right : ℕ) (left_rows right_rows : List Row) → left < length e.outputs.items → right < length e.outputs.items
     → first.outputs.items ≡ set e.outputs.items left (bag_with (bag_at e.outputs.items left).width []) → first.last.items ≡ e.last.items
     → both.outputs.items ≡ set first.outputs.items right (bag_with (bag_at first.outputs.items right).width []) → both.last.items ≡ first.last.items
-    → then.outputs.items ≡ with_kept both left left_rows → then.last.items ≡ both.last.items
-    → last.outputs.items ≡ with_kept then right right_rows → last.last.items ≡ then.last.items
+    → mid.outputs.items ≡ with_kept both left left_rows → mid.last.items ≡ both.last.items
+    → last.outputs.items ≡ with_kept mid right right_rows → last.last.items ≡ mid.last.items
     → SameBag left_rows (bag_at e.outputs.items left).rows → SameBag right_rows (bag_at e.outputs.items right).rows → Keeps e last
-keeps_both_back e first both then last left right left_rows right_rows lt rt one one_last two two_last three three_last four four_last left_same right_same =
+keeps_both_back e first both mid last left right left_rows right_rows lt rt one one_last two two_last three three_last four four_last left_same right_same =
     let out_both = out_take (λ place. ⊤ × (place ≢ left)) e first both right (out_here e first left one one_last) two two_last in
-    let left_back = out_keep (λ place. place ≢ right) e both then left left_rows lt
+    let left_back = out_keep (λ place. place ≢ right) e both mid left left_rows lt
     (out_fewer (λ place. (⊤ × (place ≢ left)) × (place ≢ right)) (λ place. (place ≢ right) × (place ≢ left)) e both (λ place h. ((tt, h.1), h.0)) out_both)
     left_same three three_last in
-    let right_back = out_keep (λ place. IsTrue (is_taken_later e place)) e then last right right_rows rt
-    (out_fewer (λ place. (place ≢ right) × IsTrue (is_taken_later e place)) (λ place. IsTrue (is_taken_later e place) × (place ≢ right)) e then (λ place h. (h.1, h.0)) left_back)
+    let right_back = out_keep (λ place. IsTrue (is_taken_later e place)) e mid last right right_rows rt
+    (out_fewer (λ place. (place ≢ right) × IsTrue (is_taken_later e place)) (λ place. IsTrue (is_taken_later e place) × (place ≢ right)) e mid (λ place h. (h.1, h.0)) left_back)
     right_same four four_last in
     out_keeps (λ place. IsTrue (is_taken_later e place) × IsTrue (is_taken_later e place)) e last (λ place later. (later, later)) right_back

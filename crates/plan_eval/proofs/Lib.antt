@@ -1,6 +1,7 @@
 mod ByBatch
 mod Frames
 mod Operated
+mod Ran
 mod Results
 mod Stages
 mod Steps

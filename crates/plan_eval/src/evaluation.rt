@@ -86,7 +86,7 @@ impl<'a> Evaluation<'a> {
             Op::Union => self.run_union(alloc, inputs),
             Op::Join { kind, keys } => self.run_join(alloc, *kind, keys, inputs[0], inputs[1]),
             Op::Sink { name } => self.run_sink(alloc, name, inputs[0]),
-            op => self.run_unary(alloc, op, inputs[0]),
+            _ => self.run_unary(alloc, &node.op, inputs[0]),
         }
     }
 

@@ -2,7 +2,7 @@ ghost use Rattle.std.specs.Prelude.{◌≡◌, IfOk, IfSome, IsTrue};
 ghost use Rattle.std.specs.List.{flat_map};
 ghost use Rattle.row_core.specs.Bags.{SameBag};
 ghost use Rattle.operator_laws.specs.Applied.{applied};
-ghost use Rattle.plan_model.specs.Operators.{is_unary};
+ghost use Rattle.plan_model.specs.Operators.{is_unary, repeats_right};
 ghost use Rattle.plan_model.specs.Sinks.{sorted_lines};
 ghost use Rattle.plan_eval.specs.Outputs.{rows_of};
 ghost use Rattle.plan_eval.specs.Pipelines.{FindsColumns, joined_by, scan_rows};
@@ -80,16 +80,41 @@ impl<'a> NodeRows<'a> {
         ensures { IfOk result (λ rows. SameBag (rows_of rows)
             (joined_by rule.entry (rows_of self.entry) right)) }
     {
+        if rule.kind.repeats_right() {
+            self.probe(alloc, rule, right)
+        } else {
+            self.join_in_memory(alloc, rule, right)
+        }
+    }
+
+    fn probe(self, alloc: Global, rule: JoinRule<'a>, right: Rows) -> Result<NodeRows<'a>, NoMemory>
+        requires { IsTrue (repeats_right rule.kind) }
+        ensures { IfOk result (λ rows. SameBag (rows_of rows)
+            (joined_by rule.entry (rows_of self.entry) right)) }
+    {
         match self {
-            NodeRows::Pending(pipeline) if rule.kind.repeats_right() => {
-                let pipeline = pipeline.join(rule, right)?;
-                Ok(NodeRows::Pending(pipeline))
-            }
-            left => {
-                let left = left.materialize(alloc)?;
+            NodeRows::Materialized(left) => {
                 let rows = join_owned(alloc, rule.kind, rule.keys, rule.widths, left, right)?;
                 Ok(NodeRows::Materialized(rows))
             }
+            NodeRows::Pending(pipeline) => {
+                let pipeline = pipeline.join(rule, right)?;
+                Ok(NodeRows::Pending(pipeline))
+            }
         }
+    }
+
+    fn join_in_memory(
+        self,
+        alloc: Global,
+        rule: JoinRule<'a>,
+        right: Rows,
+    ) -> Result<NodeRows<'a>, NoMemory>
+        ensures { IfOk result (λ rows. SameBag (rows_of rows)
+            (joined_by rule.entry (rows_of self.entry) right)) }
+    {
+        let left = self.materialize(alloc)?;
+        let rows = join_owned(alloc, rule.kind, rule.keys, rule.widths, left, right)?;
+        Ok(NodeRows::Materialized(rows))
     }
 }

@@ -22,7 +22,7 @@ loop-place-preserved c =
     let batch = get_or batches place [] in
     let lt : place < length batches = omega (arith, c.loop-place-test.true, c.len-place-end.ensures) in (
       rows ++ more,
-      c.in_ok-groups.ensures c.args.keys.now c.args.aggs.now rows stand,
+      (c.in_ok-groups.ensures c.args.keys.now c.args.aggs.now rows stand).0,
       batch_more (λ (batch : List Row). batch) batches place batch lt (get_or_default batches place [] batch lt)
           (λ rows others more further one two. SameBag-append rows more others further one two) rows more (rows ++ more) so_far c.in_ok-rows.ensures refl,
     )
@@ -36,5 +36,5 @@ returns c =
     let ended : length batches ≤ c.loop-place.place = omega (arith, c.loop-place-test.false, c.len-place-end.ensures) in
     let same = subst (λ (batches : List (List Row)). SameBag rows (flat_map (λ batch. batch) batches)) (take_all c.loop-place.place batches ended) all in
     IfOk-weaker c.into_rows.result _ _
-    (λ made given. same_on given ((aggregated_keyed keys aggs).same rows (flat_map (λ batch. batch) batches) same))
-    (c.into_rows.ensures keys aggs rows stand)
+    (λ made given. same_on (given keys aggs rows stand) ((aggregated_keyed keys aggs).same rows (flat_map (λ batch. batch) batches) same))
+    c.into_rows.ensures
