@@ -1,4 +1,4 @@
-ghost use Rattle.std.specs.Prelude.{◌≡◌, ◌≤◌, ◌<◌, ℕ, All, IfOk, IsTrue, get_or, length};
+ghost use Rattle.std.specs.Prelude.{◌≡◌, ◌≤◌, ◌<◌, ℕ, All, IfOk, get_or, length};
 ghost use Rattle.plan_eval.specs.Takers.{AreLast};
 
 use plan_model::Node;
@@ -15,16 +15,6 @@ pub fn last_takers(alloc: Global, nodes: &[Node]) -> Result<Vec<usize>, NoMemory
         mark(&mut last, node.inputs.as_slice(), place);
     }
     Ok(last)
-}
-
-/// Whether no node behind this place takes the rows of the input.
-pub fn takes_last(place: usize, last: &[usize], input: u32) -> bool
-    ensures { IsTrue result → get_or last.now input 0 ≤ place }
-{
-    match last.get(input as usize) {
-        Some(taker) => *taker <= place,
-        None => true,
-    }
 }
 
 // Notes that the node at this place takes the inputs.

@@ -85,10 +85,21 @@ bags_next = bags.bags_of-more
 pub bags_widths : (files : List ℕ → List (List ℕ)) (all : List Node) → bag_widths (bags_of files all) ≡ widths_of all
 bags_widths = bags.widths_of_bags
 
+-- ---- lists of bags that grow by one
+
+pub old_at : (all : List Bag) (bag : Bag) (place : ℕ) → place < length all → bag_at (all ++ bag ∷ []) place ≡ bag_at all place
+old_at = bags.old_at
+
+pub new_at : (all : List Bag) (bag : Bag) (place : ℕ) → place ≡ length all → bag_at (all ++ bag ∷ []) place ≡ bag
+new_at = bags.new_at
+
 -- ---- operators on bags
 
 pub width_at : (inputs : List Bag) (place : ℕ) → (bag_at inputs place).width ≡ get_or (bag_widths inputs) place 0
 width_at = rows.width_at
+
+pub wide_at : (inputs : List Bag) → All HasItsWidth inputs → (place : ℕ) → HasItsWidth (bag_at inputs place)
+wide_at = rows.wide_at
 
 pub widths_are : (all : List Bag) (inputs : List ℕ) → bag_widths (map (bag_at all) inputs) ≡ input_widths (bag_widths all) inputs
 widths_are = bags.widths_are
