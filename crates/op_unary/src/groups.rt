@@ -93,8 +93,9 @@ impl<'a> Groups<'a> {
 
     /// One row for each key: the key, then the aggregates of its rows. Fails as `with_rows` does.
     pub fn into_rows(self, alloc: Global) -> Result<Rows, NoMemory>
-        ensures { IfOk result (λ made. (keys : List ℕ) (aggs : List OneAgg) (rows : List OneRow)
-            → StandsFor keys aggs self.entry rows → SameBag made (aggregated keys aggs rows)) }
+        ensures { (keys : List ℕ) (aggs : List OneAgg) (rows : List OneRow)
+            → StandsFor keys aggs self.entry rows
+            → IfOk result (λ made. SameBag made (aggregated keys aggs rows)) }
     {
         let groups = merge_groups(alloc, self.groups)?;
         into_rows(alloc, groups)
