@@ -30,7 +30,7 @@ AllDiffer (key ∷ others) = All (λ other. same_row key other ≡ false) others
 abbrev pub key_count : List ℕ → List Row → ℕ
 key_count keys rows = length (one_of_each (map (key_of keys) rows))
 
--- a table of groups, some of one key until they are merged, and how many they were when they last were
+-- a table of groups, some of one key until they are merged, and how many they were when last merged
 pub record GroupTable : Type 0 where
   pub keys : List ℕ
   pub aggs : List Agg

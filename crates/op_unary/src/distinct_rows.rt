@@ -9,8 +9,8 @@ use row_core::{NoMemory, Rows};
 use std::alloc::Global;
 use std::marker::Model;
 
-/// One of each of rows that come batch by batch, so that a caller need not hold them all. Repeated rows
-/// are let go whenever a quarter as many rows have come as were left the last time.
+/// One of each of rows that come batch by batch, so that a caller need not hold them all. Repeated
+/// rows are let go whenever a quarter as many rows have come as were left the last time.
 #[derive(Drop)]
 pub struct DistinctRows {
     // those that were left the last time, and behind them those that came since
@@ -65,8 +65,8 @@ impl DistinctRows {
     }
 }
 
-/// One of each row, of rows that are the call's own: they keep their order, the others are let go, and
-/// none is copied.
+/// One of each row, of rows that are the call's own: they keep their order, the others are let go,
+/// and none is copied.
 pub fn distinct_owned(alloc: Global, rows: Rows) -> Result<Rows, NoMemory>
     ensures { IfOk result (λ kept. SameBag kept (one_of_each rows)) }
 {

@@ -23,7 +23,8 @@ pub fn first_places(rows: &[Row], order: Vec<HashedRow>) -> Result<Vec<HashedRow
     Ok(by_row(rows, firsts))
 }
 
-// By hashes alone, without what equals the one before. The sort finds in order what was so, and looks at no row.
+// By hashes alone, without what equals the one before. The sort finds in order what was so, and looks
+// at no row.
 fn by_hash(rows: &[Row], places: Vec<HashedRow>) -> Result<Vec<HashedRow>, NoMemory>
     requires { ArePlaces rows.now places.items }
     ensures places { IfOk result (λ left. ArePlaces rows.now left.items) }
@@ -36,8 +37,8 @@ fn by_hash(rows: &[Row], places: Vec<HashedRow>) -> Result<Vec<HashedRow>, NoMem
     Ok(left)
 }
 
-// Whether each hash is greater than the one before. Then no two rows are equal. Else two rows have one hash, and
-// others may stand between equal ones.
+// Whether each hash is greater than the one before. Then no two rows are equal. Else two rows have one
+// hash, and others may stand between equal ones.
 fn rises(places: &[HashedRow]) -> bool
     ensures { result ≡ true → Rises places.now }
 {

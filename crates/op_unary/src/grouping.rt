@@ -26,7 +26,8 @@ pub fn with_runs(
 ) -> Result<Vec<Group>, NoMemory>
     requires { AreHashed keys.now sorted.now }
     ensures { (before : List OneRow) → AreGroupsOf keys.now aggs.now groups.items before
-        → IfOk result (λ all. AreGroupsOf keys.now aggs.now all.items (before ++ rows_of sorted.now)) }
+        → IfOk result (λ all.
+        AreGroupsOf keys.now aggs.now all.items (before ++ rows_of sorted.now)) }
 {
     let mut all = groups;
     let mut start = 0;
@@ -50,7 +51,7 @@ fn run_group(
 ) -> Result<Group, NoMemory>
     requires hash { first.hash ≡ hash_of (key_of keys.now first.row.now) }
     requires some { 0 < length run.now }
-    requires one_key { All (λ keyed. key_in keys.now keyed ≡ key_of keys.now first.row.now) run.now }
+    requires one_key { All (λ keyed. key_in keys.now keyed ≡ key_in keys.now first) run.now }
     ensures { IfOk result (λ group. IsGroupOf keys.now aggs.now group (rows_of run.now)) }
 {
     let key = key_row(alloc, keys, first.row)?;

@@ -27,8 +27,8 @@ pub fn cmp_keys(keys: &[u32], a: &Row, b: &Row) -> Ordering
     }
 }
 
-/// The rows in the order of their keys' hashes, and of their keys where hashes are equal, so that those of
-/// one key stand together.
+/// The rows in the order of their keys' hashes, and of their keys where hashes are equal, so that those
+/// of one key stand together.
 pub fn by_key<'a>(alloc: Global, keys: &[u32], rows: &'a [Row]) -> Result<Vec<Keyed<'a>>, NoMemory>
     ensures rows { IfOk result (λ sorted. IsPermutation rows.now (rows_of sorted.items)) }
     ensures order { IfOk result (λ sorted. IsSorted hash_cmp (map (key_in keys.now) sorted.items)) }
@@ -71,8 +71,8 @@ fn cmp_keyed(keys: &[u32], a: &Keyed, b: &Keyed) -> Ordering
 
 /// How many rows at the front have the key of the first.
 pub fn run_length(keys: &[u32], first: &Row, rows: &[Keyed]) -> usize
-    ensures { result
-        ≡ prefix_len (λ keyed. same_row (key_of keys.now first.now) (key_in keys.now keyed)) rows.now }
+    ensures { result ≡ prefix_len
+        (λ keyed. same_row (key_of keys.now first.now) (key_in keys.now keyed)) rows.now }
 {
     rows.iter()
         .take_while(|keyed| cmp_keys(keys, first, keyed.row).is_eq())

@@ -17,7 +17,8 @@ pub fn merge_accumulators(
     theirs: Vec<Accumulator>,
 ) -> Result<Vec<Accumulator>, NoMemory>
     ensures { (aggs : List OneAgg) (rows more : List OneRow)
-        → ours.items ≡ map (accumulator_of rows) aggs → theirs.items ≡ map (accumulator_of more) aggs
+        → ours.items ≡ map (accumulator_of rows) aggs
+        → theirs.items ≡ map (accumulator_of more) aggs
         → IfOk result (λ all. all.items ≡ map (accumulator_of (rows ++ more)) aggs) }
 {
     let mut all = Vec::with_capacity(alloc, ours.len())?;
