@@ -93,9 +93,8 @@ impl<'a> Groups<'a> {
 
     /// One row for each key: the key, then the aggregates of its rows. Fails as `with_rows` does.
     pub fn into_rows(self, alloc: Global) -> Result<Rows, NoMemory>
-        ensures { (keys : List ℕ) (aggs : List OneAgg) (rows : List OneRow)
-            → StandsFor keys aggs self.entry rows
-            → IfOk result (λ made. SameBag made (aggregated keys aggs rows)) }
+        ensures { IfOk result (λ rows. (keys : List ℕ) (aggs : List OneAgg) (all : List OneRow)
+            → StandsFor keys aggs self.entry all → SameBag rows (aggregated keys aggs all)) }
     {
         let groups = merge_groups(alloc, self.groups)?;
         into_rows(alloc, groups)

@@ -11,10 +11,13 @@ use Rattle.op_unary.proofs.GroupRows.{made_of}
 use Rattle.op_unary.proofs.groups.Groups.into_rows.Goals as goal
 
 pub returns : goal.returns
-returns c = λ keys aggs rows stands.
-    let own = subst (λ (table : GroupTable). StandsFor keys aggs table rows) (sym c.self.view_is) stands in
+returns c =
     let groups = c.in_ok-groups.groups.items in
     let rows_of = map (λ (group : Group). group.key ++ map finish group.accumulators.items) in
-    let all = made_of keys aggs groups rows (c.in_ok-groups.ensures.holds keys aggs rows own.holds) c.in_ok-groups.ensures.differ in
-    IfOk-weaker c.into_rows.result (λ made. made ≡ rows_of groups) (λ made. SameBag made (aggregated keys aggs rows))
-    (λ made is. subst (λ (some : List Row). SameBag some (aggregated keys aggs rows)) (sym is) all) c.into_rows.ensures
+    IfOk-weaker c.into_rows.result (λ made. made ≡ rows_of groups)
+    (λ made. (keys : List ℕ) (aggs : List Agg) (rows : List Row) → StandsFor keys aggs c.args.self rows → SameBag made (aggregated keys aggs rows))
+    (λ made is keys aggs rows stands.
+    let own = subst (λ (table : GroupTable). StandsFor keys aggs table rows) (sym c.self.view_is) stands in
+    subst (λ (some : List Row). SameBag some (aggregated keys aggs rows)) (sym is)
+    (made_of keys aggs groups rows (c.in_ok-groups.ensures.holds keys aggs rows own.holds) c.in_ok-groups.ensures.differ))
+    c.into_rows.ensures
