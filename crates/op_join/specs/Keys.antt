@@ -16,7 +16,8 @@ has_null columns row = list_any (λ column. is_null (get_or row column Null)) co
 
 -- two rows match by these columns of each: their keys are equal, with no Null
 abbrev pub keys_match : List ℕ → List ℕ → List Value → List Value → Bool
-keys_match columns others row other = not (has_null columns row) && same_row (key_of columns row) (key_of others other)
+keys_match columns others row other =
+    not (has_null columns row) && same_row (key_of columns row) (key_of others other)
 
 -- the rows alone
 abbrev pub rows_of : List Keyed → List (List Value)
@@ -29,7 +30,8 @@ compared_key (column ∷ columns) keyed = prefix_value keyed.prefix ∷ key_of c
 
 -- beside each row stands its key's first value
 abbrev pub AreKeyed : List ℕ → List Keyed → Type 0
-AreKeyed columns sorted = All (λ keyed. compared_key columns keyed ≡ key_of columns keyed.row.now) sorted
+AreKeyed columns sorted =
+    All (λ keyed. compared_key columns keyed ≡ key_of columns keyed.row.now) sorted
 
 -- the rows stand in the order of their keys
 abbrev pub AreInKeyOrder : List ℕ → List Keyed → Type 0

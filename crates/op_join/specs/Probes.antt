@@ -15,4 +15,5 @@ probe_values (Owned row) = row
 -- the rows that the probe gives for these
 abbrev pub probe_outputs : Probe → List (List Value) → List (List Value)
 probe_outputs probe rows =
-    outputs probe.rule probe.padding (keys_match probe.columns.items probe.side.columns) rows probe.side.rows
+    outputs probe.rule probe.padding (keys_match probe.columns.items probe.side.columns)
+    rows probe.side.rows

@@ -9,12 +9,15 @@ use Rattle.op_join.specs.declared.rule.Rule.TheVariants.{Pairs, PairsOrPadded, M
 -- the rows for one probe row and its matches; the padding stands where the other side has none
 abbrev pub output : Rule → Row → Row → List Row → List Row
 output Pairs padding row matches = map (λ other. row ++ other) matches
-output PairsOrPadded padding row matches = or_padded (row ++ padding) (map (λ other. row ++ other) matches)
-output MirroredOrPadded padding row matches = or_padded (padding ++ row) (map (λ other. other ++ row) matches)
+output PairsOrPadded padding row matches =
+    or_padded (row ++ padding) (map (λ other. row ++ other) matches)
+output MirroredOrPadded padding row matches =
+    or_padded (padding ++ row) (map (λ other. other ++ row) matches)
 output PaddedIfUnmatched padding row matches = if_unmatched (padding ++ row) matches
 output RowIfMatched padding row matches = if_matched row matches
 output RowIfUnmatched padding row matches = if_unmatched row matches
 
 -- the rows for all probe rows, where a test says which of the other rows match one
 abbrev pub outputs : Rule → Row → (Row → Row → Bool) → List Row → List Row → List Row
-outputs rule padding test rows others = flat_map (λ row. output rule padding row (filter (test row) others)) rows
+outputs rule padding test rows others =
+    flat_map (λ row. output rule padding row (filter (test row) others)) rows

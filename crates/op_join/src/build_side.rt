@@ -12,8 +12,8 @@ use row_core::{NoMemory, Row, Rows};
 use std::alloc::Global;
 use std::marker::Model;
 
-/// The build side of a join, its right rows, put in the order of their keys once, for probe rows, the left
-/// ones, that come batch by batch.
+/// The build side of a join, its right rows, put in the order of their keys once, for probe rows, the
+/// left ones, that come batch by batch.
 #[derive(Drop)]
 pub struct BuildSide<'a> {
     kind: JoinKind,

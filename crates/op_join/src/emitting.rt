@@ -22,7 +22,8 @@ pub fn emit(
     matches: &[Keyed],
 ) -> Result<(), NoMemory>
     ensures { OnOk result
-        (out.new ≡ out.old ++ output rule padding.now (probe_values row.entry) (rows_of matches.now)) }
+        (out.new ≡ out.old
+        ++ output rule padding.now (probe_values row.entry) (rows_of matches.now)) }
 {
     match matches.split_last() {
         None => emit_unmatched(alloc, out, rule, padding, row),
@@ -59,7 +60,8 @@ fn emit_matched(
     last: &Keyed,
 ) -> Result<(), NoMemory>
     ensures { (padding : List OneValue) → OnOk result (out.new ≡ out.old
-        ++ output rule padding (probe_values row.entry) (rows_of first.now ++ last.now.row.now ∷ [])) }
+        ++ output rule padding (probe_values row.entry)
+        (rows_of first.now ++ last.now.row.now ∷ [])) }
 {
     match rule {
         Rule::Pairs | Rule::PairsOrPadded => push_pairs(alloc, out, row, first, last),
@@ -77,7 +79,8 @@ fn push_pairs(
     last: &Keyed,
 ) -> Result<(), NoMemory>
     ensures { OnOk result (out.new ≡ out.old
-        ++ map (λ other. probe_values row.entry ++ other) (rows_of first.now ++ last.now.row.now ∷ [])) }
+        ++ map (λ other. probe_values row.entry ++ other)
+        (rows_of first.now ++ last.now.row.now ∷ [])) }
 {
     for other in first {
         out.push(concat(alloc, row.as_row(), other.row)?)?;
@@ -93,7 +96,8 @@ fn push_mirrored(
     last: &Keyed,
 ) -> Result<(), NoMemory>
     ensures { OnOk result (out.new ≡ out.old
-        ++ map (λ other. other ++ probe_values row.entry) (rows_of first.now ++ last.now.row.now ∷ [])) }
+        ++ map (λ other. other ++ probe_values row.entry)
+        (rows_of first.now ++ last.now.row.now ∷ [])) }
 {
     for other in first {
         out.push(concat(alloc, other.row, row.as_row())?)?;

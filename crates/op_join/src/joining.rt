@@ -10,8 +10,8 @@ use plan_model::{JoinKind, KeyPairs, Widths};
 use row_core::{NoMemory, Row, Rows};
 use std::alloc::Global;
 
-/// The rows of a join, in some order. Rows match where at each key pair the two values are equal and
-/// not Null. Where a row gives Nulls for the other side, it gives as many as that side's width.
+/// The rows of a join, in some order. Rows match where at each key pair the two values are equal
+/// and not Null. Where a row gives Nulls for the other side, it gives as many as that side's width.
 pub fn join(
     alloc: Global,
     kind: JoinKind,
@@ -43,8 +43,8 @@ pub fn join(
     }
 }
 
-/// The rows of a join, as `join` gives them, from sides that are needed no more. The rows of the side that
-/// the others are padded for are moved into the result; those of the other side are copied.
+/// The rows of a join, as `join` gives them, from sides that are needed no more. The rows of the side
+/// that the others are padded for are moved into the result; those of the other side are copied.
 pub fn join_owned(
     alloc: Global,
     kind: JoinKind,

@@ -5,7 +5,8 @@ ghost use Rattle.op_join.specs.Cells.{or_null, prefix_value};
 use row_core::Value;
 use std::cmp::Ordering;
 
-/// The first value of a key, borrowed in the smallest form that is compared without a look at the value itself.
+/// The first value of a key, borrowed in the smallest form that is compared without a look at the
+/// value itself.
 #[derive(Clone, Copy, Drop)]
 pub enum KeyPrefix<'a> {
     Null,

@@ -1,5 +1,5 @@
 //! The joins of two inputs: inner, left, right, full, semi and anti. docs/SEMANTICS.md says what each
-//! gives. Rows come in no promised order.
+//! gives. Rows come in no promised order. `probe.rt` is the join itself.
 #![tactic(auto)]
 
 mod build_side;

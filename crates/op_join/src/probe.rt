@@ -88,8 +88,8 @@ impl<'a> Probe<'a> {
         Ok(out)
     }
 
-    /// What `rows` gives, of rows that are the call's own: each is moved into the last row that it gives,
-    /// and let go where it gives none.
+    /// What `rows` gives, of rows that are the call's own: each is moved into the last row that it
+    /// gives, and let go where it gives none.
     pub fn rows_owned(&self, alloc: Global, rows: Rows) -> Result<Rows, NoMemory>
         ensures { IfOk result (λ made. made ≡ probe_outputs self.now rows) }
     {

@@ -8,8 +8,8 @@ use row_core::Row;
 // So many rows are looked at before all others where a row's matches may begin or end.
 const NEAR: usize = 4;
 
-/// The rows, sorted by these others of their columns, that match a row by its. They are looked for first
-/// at the place where the matches of the last row began.
+/// The rows, in the order of their keys in the other columns, that match a row by its. They are looked
+/// for first at the place where the matches of the last row began.
 pub fn matches_among<'a, 'b>(
     columns: &[u32],
     row: &Row,
@@ -32,7 +32,7 @@ pub fn matches_among<'a, 'b>(
     &rest[..count_reached(columns, &probe, others, rest)]
 }
 
-// How many rows at the front have a lesser key than the row. Those about this place are looked at first.
+// How many rows at the front have a lesser key. Those about this place are looked at first.
 fn count_less(columns: &[u32], row: &Keyed, others: &[u32], sorted: &[Keyed], place: usize) -> usize
     requires { AreInKeyOrder others.now sorted.now }
     ensures { IsFirstReached columns.now row.now others.now sorted.now result }
@@ -54,7 +54,7 @@ fn count_less_among(columns: &[u32], row: &Keyed, others: &[u32], sorted: &[Keye
     sorted.partition_point(|other| cmp_keyed(others, other, columns, row).is_lt())
 }
 
-// How many rows at the front have no greater key. Mostly few do, so the first few are looked at first.
+// How many rows at the front have no greater key. Mostly few do, so the first are looked at first.
 fn count_reached(columns: &[u32], row: &Keyed, others: &[u32], sorted: &[Keyed]) -> usize
     requires { AreInKeyOrder others.now sorted.now }
     ensures { IsFirstGreater columns.now row.now others.now sorted.now result }

@@ -22,7 +22,8 @@ impl<'a> Model for SortedSide<'a> {
 
     ghost Value = { KeyedTable };
 
-    ghost view = { λ side. record { columns = side.columns.items; rows = rows_of side.sorted.items } };
+    ghost view = { λ side.
+        record { columns = side.columns.items; rows = rows_of side.sorted.items } };
 
     ghost invariant = { λ side. AreKeyed side.columns.items side.sorted.items
         × AreInKeyOrder side.columns.items side.sorted.items };

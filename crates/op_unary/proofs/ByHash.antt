@@ -43,8 +43,8 @@ pub hash_strict : IsStrict {X = Row} hash_less same_row
 hash_strict = by_itself
 
 -- rows with other hashes are other rows
-pub told_apart : (a b : Row) (m n : ℕ) → m ≡ hash_of a → n ≡ hash_of b → (m ≡ n → ⊥) → nat_eq m n ≡ same_row a b
-told_apart a b m n mine theirs other =
+pub hashes_apart : (a b : Row) (m n : ℕ) → m ≡ hash_of a → n ≡ hash_of b → (m ≡ n → ⊥) → nat_eq m n ≡ same_row a b
+hashes_apart a b m n mine theirs other =
     false_from hash_less same_row hash_strict (nat_eq m n) (λ tie. other (eqb-true m n tie))
     ∙ sym (false_from hash_less same_row hash_strict (same_row a b) (λ tie. other (mine ∙ ap hash_of (same_row_is a b tie) ∙ sym theirs)))
 

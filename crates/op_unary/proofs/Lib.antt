@@ -11,4 +11,4 @@ mod Rests
 mod Rising
 mod Runs
 mod Sums
-mod Told
+mod GroupRows

@@ -46,9 +46,9 @@ told_is rows (Sum column) = sum_told (numbers_of (column_of column rows))
 told_is rows (Min column) = refl
 told_is rows (Max column) = refl
 
-pub all_told : (rows : List Row) (aggs : List Agg) → map finish (map (accumulator_of rows) aggs) ≡ map (agg_value rows) aggs
-all_told rows [] = refl
-all_told rows (agg ∷ aggs) = λ i. told_is rows agg i ∷ all_told rows aggs i
+pub all_finished : (rows : List Row) (aggs : List Agg) → map finish (map (accumulator_of rows) aggs) ≡ map (agg_value rows) aggs
+all_finished rows [] = refl
+all_finished rows (agg ∷ aggs) = λ i. told_is rows agg i ∷ all_finished rows aggs i
 
 -- accumulators of the same aggregates, merge one after another
 pub record Left (aggs : List Agg) (rows more : List Row) (done ours theirs : List Accumulator) : Type 0 where

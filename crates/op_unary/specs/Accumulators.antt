@@ -1,4 +1,4 @@
--- The state of an aggregate over some rows; the states of two lists of rows merge into that of both.
+-- The state of an aggregate over some rows; the states of two lists merge into that of both.
 use Rattle.std.specs.Prelude.{nat_lt, ◌+◌, ◌||◌, pos, ◌+ℤ◌, List, length, if◌then◌else◌}
 use Rattle.row_core.specs.Values.{int_value}
 use Rattle.row_core.specs.declared.value.Value.{Value}
@@ -12,7 +12,8 @@ use Rattle.op_unary.specs.declared.accumulator.Accumulator.TheVariants.{Counted,
 -- the accumulator of an aggregate over these rows
 abbrev pub accumulator_of : List (List Value) → Agg → Accumulator
 accumulator_of rows Count = Counted (length rows)
-accumulator_of rows (Sum column) = let numbers = numbers_of (column_of column rows) in Summed (nat_lt 0 (length numbers)) (whole_sum numbers)
+accumulator_of rows (Sum column) =
+    let numbers = numbers_of (column_of column rows) in Summed (nat_lt 0 (length numbers)) (whole_sum numbers)
 accumulator_of rows (Min column) = Least (least (column_of column rows))
 accumulator_of rows (Max column) = Greatest (greatest (column_of column rows))
 

@@ -1,5 +1,5 @@
 -- A hash by which rows are put in an order: rows with equal values have equal hashes.
-use Rattle.std.specs.Prelude.{ℕ, ◌*◌, ◌%◌, ◌^◌, List, [], ◌∷◌, fold, bit_xor}
+use Rattle.std.specs.Prelude.{ℕ, ◌*◌, ◌%◌, ◌^◌, List, fold, bit_xor}
 use Rattle.std.specs.Int.{w64, cast_unsigned}
 use Rattle.std.specs.Ordering.{nat_cmp, ordering_then}
 use Rattle.std.specs.declared.cmp.Ordering.{Ordering}
@@ -17,14 +17,9 @@ value_hash state Null = mixed state 0
 value_hash state (Int n) = mixed (mixed state 1) (cast_unsigned w64 n)
 value_hash state (Text t) = fold mixed (mixed state 2) t
 
--- these values more
-abbrev pub hash_on : ℕ → List Value → ℕ
-hash_on state [] = state
-hash_on state (value ∷ values) = hash_on (value_hash state value) values
-
 -- the hash of these values
 abbrev pub hash_of : List Value → ℕ
-hash_of values = hash_on 14695981039346656037 values
+hash_of values = fold value_hash 14695981039346656037 values
 
 -- by hashes, and by values where hashes are equal
 abbrev pub hash_cmp : List Value → List Value → Ordering

@@ -4,3 +4,4 @@ pub mod Distinct
 pub mod Groups
 pub mod Hashes
 pub mod Inputs
+pub mod Keys

@@ -2,6 +2,7 @@ ghost use Rattle.std.specs.Prelude.{◌≡◌, ◌≤ℤ◌, ◌+ℤ◌, ◌^◌
 ghost use Rattle.plan_model.specs.Operators.{column_of, numbers_of, whole_sum, least, greatest, lesser_value, greater_value};
 ghost use Rattle.plan_model.specs.declared.agg.Agg.TheVariants.{Sum};
 ghost use Rattle.op_unary.specs.Cells.{or_null};
+ghost use Rattle.op_unary.specs.Keys.{rows_of};
 ghost use Rattle.op_unary.specs.Accumulators.{accumulator_of};
 
 use crate::accumulator::Accumulator;
@@ -13,7 +14,7 @@ use std::alloc::Global;
 
 /// The accumulator of an aggregate over these rows.
 pub fn accumulate(alloc: Global, agg: Agg, rows: &[Keyed]) -> Result<Accumulator, NoMemory>
-    ensures { IfOk result (λ accumulator. accumulator ≡ accumulator_of (map (λ keyed. keyed.row.now) rows.now) agg) }
+    ensures { IfOk result (λ state. state ≡ accumulator_of (rows_of rows.now) agg) }
 {
     match agg {
         Agg::Count => Ok(Accumulator::Counted(rows.len() as u64)),
@@ -24,7 +25,7 @@ pub fn accumulate(alloc: Global, agg: Agg, rows: &[Keyed]) -> Result<Accumulator
 }
 
 fn sum(column: u32, rows: &[Keyed]) -> Accumulator
-    ensures { result ≡ accumulator_of (map (λ keyed. keyed.row.now) rows.now) (Sum column) }
+    ensures { result ≡ accumulator_of (rows_of rows.now) (Sum column) }
 {
     let mut total = 0i128;
     let mut any = false;
@@ -55,7 +56,7 @@ fn is_number(value: Option<&Value>) -> bool
 }
 
 fn min<'a>(column: u32, rows: &[Keyed<'a>]) -> Option<&'a Value>
-    ensures { or_null result ≡ least (column_of column (map (λ keyed. keyed.row.now) rows.now)) }
+    ensures { or_null result ≡ least (column_of column (rows_of rows.now)) }
 {
     let mut least = None;
     for keyed in rows {
@@ -65,7 +66,7 @@ fn min<'a>(column: u32, rows: &[Keyed<'a>]) -> Option<&'a Value>
 }
 
 fn max<'a>(column: u32, rows: &[Keyed<'a>]) -> Option<&'a Value>
-    ensures { or_null result ≡ greatest (column_of column (map (λ keyed. keyed.row.now) rows.now)) }
+    ensures { or_null result ≡ greatest (column_of column (rows_of rows.now)) }
 {
     let mut greatest = None;
     for keyed in rows {

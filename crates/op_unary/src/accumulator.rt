@@ -16,7 +16,8 @@ pub enum Accumulator {
 }
 
 impl Accumulator {
-    /// The state over the rows of both, of one aggregate. Fails where a count leaves 64 bits or a sum 128.
+    /// The state over the rows of both, of one aggregate. Fails where a count leaves 64 bits or a sum
+    /// 128.
     pub fn merge(self, other: Accumulator) -> Result<Accumulator, NoMemory>
         ensures { IfOk result (λ both. both ≡ merge self other) }
     {

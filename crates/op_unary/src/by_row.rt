@@ -12,7 +12,7 @@ use plan_model::Op;
 use row_core::{NoMemory, Row, Rows};
 use std::alloc::Global;
 
-/// What an operator gives that goes row by row.
+/// The rows of an operator that goes row by row.
 pub fn by_row(alloc: Global, op: &Op, rows: &[Row]) -> Result<Rows, NoMemory>
     requires by_row { IsTrue (is_row_wise op.now) }
     requires columns { All (λ row. IsTrue (columns_fit op.now (length row ∷ []))) rows.now }
@@ -25,7 +25,7 @@ pub fn by_row(alloc: Global, op: &Op, rows: &[Row]) -> Result<Rows, NoMemory>
     Ok(out)
 }
 
-/// What `by_row` gives, of rows that are the call's own: each is moved, or let go as soon as it is used.
+/// The same of rows that are the call's own: each is moved, or let go as soon as it is used.
 pub fn by_row_owned(alloc: Global, op: &Op, rows: Rows) -> Result<Rows, NoMemory>
     requires by_row { IsTrue (is_row_wise op.now) }
     requires columns { All (λ row. IsTrue (columns_fit op.now (length row ∷ []))) rows }
@@ -38,7 +38,7 @@ pub fn by_row_owned(alloc: Global, op: &Op, rows: Rows) -> Result<Rows, NoMemory
     Ok(out)
 }
 
-// Appends what the operator gives on one row.
+// Appends the operator's rows for one row.
 fn apply_to(alloc: Global, out: &mut Rows, op: &Op, row: InputRow) -> Result<(), NoMemory>
     requires by_row { IsTrue (is_row_wise op.now) }
     requires columns { IsTrue (columns_fit op.now (length (input_values row) ∷ [])) }

@@ -9,8 +9,8 @@ use row_core::{NoMemory, Rows};
 use std::alloc::Global;
 use std::marker::Model;
 
-/// One of each of rows that come part by part, so that a caller need not hold them all. Repeated rows are let go from
-/// time to time: whenever a quarter as many rows have come as were left the last time.
+/// One of each of rows that come batch by batch, so that a caller need not hold them all. Repeated
+/// rows are let go whenever a quarter as many rows have come as were left the last time.
 #[derive(Drop)]
 pub struct DistinctRows {
     // those that were left the last time, and behind them those that came since
@@ -29,7 +29,8 @@ impl Model for DistinctRows {
 
     ghost view = { λ d. d.rows };
 
-    ghost invariant = { λ d. IsOrder d.rows d.order.items × (length d.order.items ≤ length (one_of_each d.rows)) };
+    ghost invariant = { λ d. IsOrder d.rows d.order.items
+        × (length d.order.items ≤ length (one_of_each d.rows)) };
 }
 
 impl DistinctRows {
@@ -44,7 +45,8 @@ impl DistinctRows {
 
     /// These and further rows. No more than five for every four that are distinct stay.
     pub fn with_rows(self, alloc: Global, rows: Rows) -> Result<Self, NoMemory>
-        ensures same { IfOk result (λ kept. SameBag (one_of_each kept) (one_of_each (self ++ rows))) }
+        ensures same { IfOk result (λ kept.
+            SameBag (one_of_each kept) (one_of_each (self ++ rows))) }
         ensures few { IfOk result (λ kept. 4 * length kept ≤ 5 * length (one_of_each kept)) }
     {
         let order = self.order;
@@ -63,7 +65,8 @@ impl DistinctRows {
     }
 }
 
-/// One of each row, of rows that are the call's own: they keep their order, the others are let go, and none is copied.
+/// One of each row, of rows that are the call's own: they keep their order, the others are let go,
+/// and none is copied.
 pub fn distinct_owned(alloc: Global, rows: Rows) -> Result<Rows, NoMemory>
     ensures { IfOk result (λ kept. SameBag kept (one_of_each rows)) }
 {

@@ -1,8 +1,8 @@
-ghost use Rattle.std.specs.Prelude.{◌≡◌, true, [], get_or, length, map, IfOk};
+ghost use Rattle.std.specs.Prelude.{◌≡◌, true, [], get_or, length, IfOk};
 ghost use Rattle.std.specs.Ordering.{nat_cmp, ordering_then};
 ghost use Rattle.row_core.specs.Bags.{SameBag, one_of_each};
 ghost use Rattle.row_core.specs.Values.{row_cmp};
-ghost use Rattle.op_unary.specs.Distinct.{row_at, ArePlaces, IsOrder, Rises};
+ghost use Rattle.op_unary.specs.Distinct.{rows_at, ArePlaces, IsOrder, Rises};
 
 use crate::hashed_row::HashedRow;
 use crate::hashing::hash_row;
@@ -13,7 +13,8 @@ use std::cmp::Ordering;
 pub fn first_places(rows: &[Row], order: Vec<HashedRow>) -> Result<Vec<HashedRow>, NoMemory>
     requires { IsOrder rows.now order.items }
     ensures places { IfOk result (λ firsts. ArePlaces rows.now firsts.items) }
-    ensures each { IfOk result (λ firsts. SameBag (map (row_at rows.now) firsts.items) (one_of_each rows.now)) }
+    ensures each { IfOk result (λ firsts.
+        SameBag (rows_at rows.now firsts.items) (one_of_each rows.now)) }
 {
     let firsts = by_hash(rows, with_others(rows, order)?)?;
     if rises(firsts.as_slice()) {
@@ -22,11 +23,13 @@ pub fn first_places(rows: &[Row], order: Vec<HashedRow>) -> Result<Vec<HashedRow
     Ok(by_row(rows, firsts))
 }
 
-// By hashes alone, without what equals the one before. The sort finds in order what was so, and looks at no row.
+// By hashes alone, without what equals the one before. The sort finds in order what was so, and looks
+// at no row.
 fn by_hash(rows: &[Row], places: Vec<HashedRow>) -> Result<Vec<HashedRow>, NoMemory>
     requires { ArePlaces rows.now places.items }
     ensures places { IfOk result (λ left. ArePlaces rows.now left.items) }
-    ensures same { IfOk result (λ left. SameBag (one_of_each (map (row_at rows.now) left.items)) (one_of_each (map (row_at rows.now) places.items))) }
+    ensures same { IfOk result (λ left. SameBag (one_of_each (rows_at rows.now left.items))
+        (one_of_each (rows_at rows.now places.items))) }
 {
     let mut left = places;
     left.sort_by(|a, b| a.hash.cmp(&b.hash))?;
@@ -34,8 +37,8 @@ fn by_hash(rows: &[Row], places: Vec<HashedRow>) -> Result<Vec<HashedRow>, NoMem
     Ok(left)
 }
 
-// Whether each hash is greater than the one before. Then no two rows are equal. Else two rows have one hash, and
-// others may stand between equal ones.
+// Whether each hash is greater than the one before. Then no two rows are equal. Else two rows have one
+// hash, and others may stand between equal ones.
 fn rises(places: &[HashedRow]) -> bool
     ensures { result ≡ true → Rises places.now }
 {
@@ -46,7 +49,8 @@ fn rises(places: &[HashedRow]) -> bool
 fn by_row(rows: &[Row], places: Vec<HashedRow>) -> Vec<HashedRow>
     requires { ArePlaces rows.now places.items }
     ensures places { ArePlaces rows.now result.items }
-    ensures each { SameBag (map (row_at rows.now) result.items) (one_of_each (map (row_at rows.now) places.items)) }
+    ensures each { SameBag (rows_at rows.now result.items)
+        (one_of_each (rows_at rows.now places.items)) }
 {
     let mut firsts = places;
     firsts.sort_unstable_by(|a, b| cmp_hashed(rows, a, b));
@@ -69,7 +73,8 @@ fn with_others(rows: &[Row], order: Vec<HashedRow>) -> Result<Vec<HashedRow>, No
 }
 
 fn cmp_hashed(rows: &[Row], a: &HashedRow, b: &HashedRow) -> Ordering
-    ensures { result ≡ ordering_then (nat_cmp a.now.hash b.now.hash) (row_cmp (get_or rows.now a.now.place []) (get_or rows.now b.now.place [])) }
+    ensures { result ≡ ordering_then (nat_cmp a.now.hash b.now.hash)
+        (row_cmp (get_or rows.now a.now.place []) (get_or rows.now b.now.place [])) }
 {
     match a.hash.cmp(&b.hash) {
         Ordering::Equal => cmp_at(rows, a.place, b.place),

@@ -21,7 +21,7 @@ impl Group {
     ghost use Rattle.row_core.specs.Values.{same_row};
     ghost use Rattle.bag_laws.specs.Rows.{OneRow};
     ghost use Rattle.plan_model.specs.declared.agg.Agg.{Agg as OneAgg};
-    ghost use Rattle.op_unary.specs.Groups.{TellsOf};
+    ghost use Rattle.op_unary.specs.Groups.{IsGroupOf};
     ghost use Rattle.op_unary.specs.Hashes.{hash_cmp};
     ghost use Rattle.op_unary.specs.Accumulators.{finish};
 
@@ -45,8 +45,9 @@ impl Group {
     /// One group for two with one key.
     pub fn merge(self, alloc: Global, other: Group) -> Result<Group, NoMemory>
         ensures key { IfOk result (λ both. both.key ≡ self.key) }
-        ensures rows { (keys : List ℕ) (aggs : List OneAgg) (rows more : List OneRow) → TellsOf keys aggs self rows → TellsOf keys aggs other more → self.key ≡ other.key
-            → IfOk result (λ both. TellsOf keys aggs both (rows ++ more)) }
+        ensures rows { (keys : List ℕ) (aggs : List OneAgg) (rows more : List OneRow)
+            → IsGroupOf keys aggs self rows → IsGroupOf keys aggs other more
+            → self.key ≡ other.key → IfOk result (λ both. IsGroupOf keys aggs both (rows ++ more)) }
     {
         let Group {
             hash,

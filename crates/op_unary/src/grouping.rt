@@ -1,8 +1,9 @@
 ghost use Rattle.std.specs.Prelude.{◌≡◌, ◌<◌, ◌++◌, All, List, length, map, IfOk};
 ghost use Rattle.bag_laws.specs.Rows.{OneRow};
 ghost use Rattle.plan_model.specs.Operators.{key_of};
-ghost use Rattle.op_unary.specs.Groups.{AreTold, TellsOf};
+ghost use Rattle.op_unary.specs.Groups.{AreGroupsOf, IsGroupOf};
 ghost use Rattle.op_unary.specs.Hashes.{hash_of};
+ghost use Rattle.op_unary.specs.Keys.{key_in, rows_of, AreHashed};
 ghost use Rattle.op_unary.specs.Accumulators.{accumulator_of};
 
 use crate::accumulating::accumulate;
@@ -15,7 +16,7 @@ use plan_model::Agg;
 use row_core::{NoMemory, Row};
 use std::alloc::Global;
 
-/// The groups, and behind them one of each run of rows with one key.
+/// The groups, and behind them one for each run of rows with one key.
 pub fn with_runs(
     alloc: Global,
     keys: &[u32],
@@ -23,9 +24,10 @@ pub fn with_runs(
     groups: Vec<Group>,
     sorted: &[Keyed],
 ) -> Result<Vec<Group>, NoMemory>
-    requires { All (λ keyed. keyed.hash ≡ hash_of (key_of keys.now keyed.row.now)) sorted.now }
-    ensures { (before : List OneRow) → AreTold keys.now aggs.now groups.items before
-        → IfOk result (λ all. AreTold keys.now aggs.now all.items (before ++ map (λ keyed. keyed.row.now) sorted.now)) }
+    requires { AreHashed keys.now sorted.now }
+    ensures { (before : List OneRow) → AreGroupsOf keys.now aggs.now groups.items before
+        → IfOk result (λ all.
+        AreGroupsOf keys.now aggs.now all.items (before ++ rows_of sorted.now)) }
 {
     let mut all = groups;
     let mut start = 0;
@@ -49,8 +51,8 @@ fn run_group(
 ) -> Result<Group, NoMemory>
     requires hash { first.hash ≡ hash_of (key_of keys.now first.row.now) }
     requires some { 0 < length run.now }
-    requires one_key { All (λ keyed. key_of keys.now keyed.row.now ≡ key_of keys.now first.row.now) run.now }
-    ensures { IfOk result (λ group. TellsOf keys.now aggs.now group (map (λ keyed. keyed.row.now) run.now)) }
+    requires one_key { All (λ keyed. key_in keys.now keyed ≡ key_in keys.now first) run.now }
+    ensures { IfOk result (λ group. IsGroupOf keys.now aggs.now group (rows_of run.now)) }
 {
     let key = key_row(alloc, keys, first.row)?;
     let accumulators = accumulators_of(alloc, aggs, run)?;
@@ -72,7 +74,8 @@ fn key_row(alloc: Global, keys: &[u32], row: &Row) -> Result<Row, NoMemory>
 }
 
 fn accumulators_of(alloc: Global, aggs: &[Agg], run: &[Keyed]) -> Result<Vec<Accumulator>, NoMemory>
-    ensures { IfOk result (λ accumulators. accumulators.items ≡ map (accumulator_of (map (λ keyed. keyed.row.now) run.now)) aggs.now) }
+    ensures { IfOk result (λ accumulators.
+        accumulators.items ≡ map (accumulator_of (rows_of run.now)) aggs.now) }
 {
     let mut accumulators = Vec::with_capacity(alloc, aggs.len())?;
     for agg in aggs {

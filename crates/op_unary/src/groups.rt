@@ -17,8 +17,8 @@ use std::marker::Model;
 // So few groups are not worth merging_groups.
 const FEW: usize = 1024;
 
-/// The hash table of an aggregate whose rows come batch by batch. The rows aren't kept: only an accumulator
-/// for each key and aggregate.
+/// The hash table of an aggregate whose rows come batch by batch. The rows aren't kept: only an
+/// accumulator for each key and aggregate.
 #[derive(Drop)]
 pub struct Groups<'a> {
     keys: &'a [u32],
@@ -53,8 +53,8 @@ impl<'a> Groups<'a> {
         }
     }
 
-    /// The same with further rows. Fails for want of memory, or where the rows of one key are more than 64 bits
-    /// can count.
+    /// The same with further rows. Fails for want of memory, or where the rows of one key are more than
+    /// 64 bits can count or their sum leaves 128 bits.
     pub fn with_rows(self, alloc: Global, rows: Rows) -> Result<Self, NoMemory>
         ensures { IfOk result (λ table. GainsRows self.entry table rows) }
     {
@@ -93,8 +93,8 @@ impl<'a> Groups<'a> {
 
     /// One row for each key: the key, then the aggregates of its rows. Fails as `with_rows` does.
     pub fn into_rows(self, alloc: Global) -> Result<Rows, NoMemory>
-        ensures { IfOk result (λ made. (keys : List ℕ) (aggs : List OneAgg) (rows : List OneRow)
-            → StandsFor keys aggs self.entry rows → SameBag made (aggregated keys aggs rows)) }
+        ensures { IfOk result (λ rows. (keys : List ℕ) (aggs : List OneAgg) (all : List OneRow)
+            → StandsFor keys aggs self.entry all → SameBag rows (aggregated keys aggs all)) }
     {
         let groups = merge_groups(alloc, self.groups)?;
         into_rows(alloc, groups)

@@ -1,7 +1,7 @@
 ghost use Rattle.std.specs.Prelude.{◌≡◌, fold};
 ghost use Rattle.plan_model.specs.Operators.{key_of};
 ghost use Rattle.op_unary.specs.Cells.{or_null};
-ghost use Rattle.op_unary.specs.Hashes.{hash_of, hash_on, mixed, value_hash};
+ghost use Rattle.op_unary.specs.Hashes.{hash_of, mixed, value_hash};
 
 use crate::cells::cell;
 use row_core::{Row, Value};
@@ -14,32 +14,28 @@ const HASH_PRIME: u64 = 1_099_511_628_211;
 pub fn hash_key(keys: &[u32], row: &Row) -> u64
     ensures { result ≡ hash_of (key_of keys.now row.now) }
 {
-    hash_columns(HASH_START, keys, row)
+    let mut state = HASH_START;
+    for key in keys {
+        state = hash_cell(state, cell(row, *key));
+    }
+    state
 }
 
 /// The hash of a whole row.
 pub fn hash_row(row: &Row) -> u64
     ensures { result ≡ hash_of row.now }
 {
-    hash_values(HASH_START, row.as_slice())
+    hash_values(row.as_slice())
 }
 
-fn hash_columns(state: u64, keys: &[u32], row: &Row) -> u64
-    ensures { result ≡ hash_on state (key_of keys.now row.now) }
+fn hash_values(values: &[Value]) -> u64
+    ensures { result ≡ hash_of values.now }
 {
-    match keys.split_first() {
-        None => state,
-        Some((key, others)) => hash_columns(hash_cell(state, cell(row, *key)), others, row),
+    let mut state = HASH_START;
+    for value in values {
+        state = hash_value(state, value);
     }
-}
-
-fn hash_values(state: u64, values: &[Value]) -> u64
-    ensures { result ≡ hash_on state values.now }
-{
-    match values.split_first() {
-        None => state,
-        Some((value, others)) => hash_values(hash_value(state, value), others),
-    }
+    state
 }
 
 fn hash_cell(state: u64, value: Option<&Value>) -> u64

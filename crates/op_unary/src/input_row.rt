@@ -4,7 +4,8 @@ ghost use Rattle.op_unary.specs.Inputs.{input_values};
 use row_core::{NoMemory, Row};
 use std::alloc::Global;
 
-/// A row that goes in: borrowed, or the call's own, which is moved where it stays and let go where it doesn't.
+/// A row that goes in: borrowed, or the call's own, which is moved where it stays and let go where it
+/// doesn't.
 #[derive(Drop)]
 pub enum InputRow<'a> {
     Borrowed(&'a Row),

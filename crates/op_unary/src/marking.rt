@@ -2,7 +2,7 @@ ghost use Rattle.std.specs.Prelude.{◌≡◌, ◌<◌, ◌∷◌, true, false, 
 ghost use Rattle.std.specs.List.{items_where_true};
 ghost use Rattle.std.specs.Vec.Iter.{into_iter_items};
 ghost use Rattle.row_core.specs.Bags.{SameBag, one_of_each};
-ghost use Rattle.op_unary.specs.Distinct.{moved, rank, row_at, ArePlaces};
+ghost use Rattle.op_unary.specs.Distinct.{moved, rank, rows_at, ArePlaces};
 
 use crate::hashed_row::HashedRow;
 use row_core::{NoMemory, Row, Rows};
@@ -12,10 +12,12 @@ use std::vec::IntoIter;
 /// Marks the rows at these places, which are one of each.
 pub fn mark(alloc: Global, rows: &[Row], firsts: &[HashedRow]) -> Result<Vec<bool>, NoMemory>
     requires places { ArePlaces rows.now firsts.now }
-    requires firsts { SameBag (map (row_at rows.now) firsts.now) (one_of_each rows.now) }
+    requires firsts { SameBag (rows_at rows.now firsts.now) (one_of_each rows.now) }
     ensures length { IfOk result (λ marks. length marks.items ≡ length rows.now) }
-    ensures set { IfOk result (λ marks. All (λ first. get_or marks.items first.place false ≡ true) firsts.now) }
-    ensures marked { IfOk result (λ marks. SameBag (items_where_true marks.items rows.now) (one_of_each rows.now)) }
+    ensures set { IfOk result (λ marks.
+        All (λ first. get_or marks.items first.place false ≡ true) firsts.now) }
+    ensures marked { IfOk result (λ marks.
+        SameBag (items_where_true marks.items rows.now) (one_of_each rows.now)) }
 {
     let mut marks = vec![in alloc; false; rows.len()]?;
     for first in firsts {
@@ -37,7 +39,8 @@ pub fn keep_marked(rows: Rows, marks: Vec<bool>) -> Rows
 
 // The next mark, none as no mark.
 fn next_mark(marks: &mut IntoIter<bool, Global>) -> bool
-    ensures { (mark : Bool) (rest : List Bool) → into_iter_items marks.old ≡ mark ∷ rest → (result ≡ mark) × (into_iter_items marks.new ≡ rest) }
+    ensures { (mark : Bool) (rest : List Bool) → into_iter_items marks.old ≡ mark ∷ rest
+        → (result ≡ mark) × (into_iter_items marks.new ≡ rest) }
 {
     marks.next().unwrap_or(false)
 }
@@ -65,7 +68,8 @@ pub fn renumbered(
 // How many marks before each are set.
 fn ranks(alloc: Global, marks: &[bool]) -> Result<Vec<usize>, NoMemory>
     ensures length { IfOk result (λ ranks. length ranks.items ≡ length marks.now) }
-    ensures ranks { IfOk result (λ ranks. (place : ℕ) → place < length marks.now → get_or ranks.items place 0 ≡ rank marks.now place) }
+    ensures ranks { IfOk result (λ ranks. (place : ℕ) → place < length marks.now
+        → get_or ranks.items place 0 ≡ rank marks.now place) }
 {
     let mut ranks = Vec::with_capacity(alloc, marks.len())?;
     let mut count = 0;

@@ -16,7 +16,9 @@ pub fn merge_accumulators(
     ours: Vec<Accumulator>,
     theirs: Vec<Accumulator>,
 ) -> Result<Vec<Accumulator>, NoMemory>
-    ensures { (aggs : List OneAgg) (rows more : List OneRow) → ours.items ≡ map (accumulator_of rows) aggs → theirs.items ≡ map (accumulator_of more) aggs
+    ensures { (aggs : List OneAgg) (rows more : List OneRow)
+        → ours.items ≡ map (accumulator_of rows) aggs
+        → theirs.items ≡ map (accumulator_of more) aggs
         → IfOk result (λ all. all.items ≡ map (accumulator_of (rows ++ more)) aggs) }
 {
     let mut all = Vec::with_capacity(alloc, ours.len())?;
@@ -32,8 +34,10 @@ fn merge_with_next(
     accumulator: Accumulator,
     others: &mut IntoIter<Accumulator, Global>,
 ) -> Result<Accumulator, NoMemory>
-    ensures { (next : OneAccumulator) (rest : List OneAccumulator) → into_iter_items others.old ≡ next ∷ rest
-        → IfOk result (λ both. both ≡ merge accumulator next) × (into_iter_items others.new ≡ rest) }
+    ensures { (next : OneAccumulator) (rest : List OneAccumulator)
+        → into_iter_items others.old ≡ next ∷ rest
+        → IfOk result (λ both. both ≡ merge accumulator next)
+        × (into_iter_items others.new ≡ rest) }
 {
     match others.next() {
         Some(other) => accumulator.merge(other),

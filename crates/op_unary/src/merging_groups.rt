@@ -3,7 +3,7 @@ ghost use Rattle.std.specs.List.Sorted.{IsPermutation, IsSorted};
 ghost use Rattle.std.specs.Vec.Iter.{into_iter_items};
 ghost use Rattle.bag_laws.specs.Rows.{OneRow};
 ghost use Rattle.plan_model.specs.declared.agg.Agg.{Agg as OneAgg};
-ghost use Rattle.op_unary.specs.Groups.{AllDiffer, AreTold};
+ghost use Rattle.op_unary.specs.Groups.{AllDiffer, AreGroupsOf};
 ghost use Rattle.op_unary.specs.Hashes.{hash_cmp};
 ghost use Rattle.op_unary.specs.Accumulators.{finish};
 
@@ -15,7 +15,9 @@ use std::vec::IntoIter;
 
 /// Groups of the same rows, one for each key.
 pub fn merge_groups(alloc: Global, groups: Vec<Group>) -> Result<Vec<Group>, NoMemory>
-    ensures told { (keys : List ℕ) (aggs : List OneAgg) (rows : List OneRow) → AreTold keys aggs groups.items rows → IfOk result (λ all. AreTold keys aggs all.items rows) }
+    ensures holds { (keys : List ℕ) (aggs : List OneAgg) (rows : List OneRow)
+        → AreGroupsOf keys aggs groups.items rows
+        → IfOk result (λ all. AreGroupsOf keys aggs all.items rows) }
     ensures differ { IfOk result (λ all. AllDiffer (map (λ group. group.key) all.items)) }
 {
     let mut sorted = in_order(groups).into_iter();
@@ -40,8 +42,9 @@ fn merge_runs(
     first: Group,
     others: IntoIter<Group, Global>,
 ) -> Result<Vec<Group>, NoMemory>
-    ensures told { (keys : List ℕ) (aggs : List OneAgg) (rows : List OneRow) → AreTold keys aggs (first ∷ into_iter_items others) rows
-        → IfOk result (λ all. AreTold keys aggs all.items rows) }
+    ensures holds { (keys : List ℕ) (aggs : List OneAgg) (rows : List OneRow)
+        → AreGroupsOf keys aggs (first ∷ into_iter_items others) rows
+        → IfOk result (λ all. AreGroupsOf keys aggs all.items rows) }
     ensures differ { IsSorted hash_cmp (map (λ group. group.key) (first ∷ into_iter_items others))
         → IfOk result (λ all. AllDiffer (map (λ group. group.key) all.items)) }
 {
@@ -60,7 +63,8 @@ fn merge_runs(
 
 /// A row of each group: the key, then the values of the aggregates.
 pub fn into_rows(alloc: Global, groups: Vec<Group>) -> Result<Rows, NoMemory>
-    ensures { IfOk result (λ rows. rows ≡ map (λ group. group.key ++ map finish group.accumulators.items) groups.items) }
+    ensures { IfOk result (λ rows.
+        rows ≡ map (λ group. group.key ++ map finish group.accumulators.items) groups.items) }
 {
     let mut rows = Rows::new(alloc);
     for group in groups {

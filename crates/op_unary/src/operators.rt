@@ -32,8 +32,8 @@ pub fn apply(alloc: Global, op: &Op, rows: &Rows) -> Result<Rows, NoMemory>
     }
 }
 
-/// What `apply` gives, of rows that are the call's own: a row that stays is moved, and the others are
-/// let go. No row is copied.
+/// What `apply` gives, of rows that are the call's own: a row that stays is moved, and the others
+/// are let go. No row is copied.
 pub fn apply_owned(alloc: Global, op: &Op, rows: Rows) -> Result<Rows, NoMemory>
     requires unary { IsTrue (is_unary op.now) }
     requires columns { All (λ row. IsTrue (columns_fit op.now (length row ∷ []))) rows }

@@ -1,10 +1,7 @@
-use Rattle.std.proofs.Common.{◌≡◌, ◌∙◌, ◌++◌, ◌∷◌, [], List, map, sym, ap}
+use Rattle.std.proofs.Common.{◌∙◌, ◌++◌, ◌∷◌, [], map, sym, ap}
 use Rattle.std.proofs.lemmas.Result.{on_ok_weaker}
 use Rattle.row_core.specs.Exprs.{value_at}
-use Rattle.row_core.specs.declared.expr.Expr.{Expr}
-use Rattle.bag_laws.specs.Rows.{OneRow as Row}
 use Rattle.plan_model.specs.declared.op.Op.{Op}
-use Rattle.plan_model.specs.declared.op.Op.TheVariants.{Project}
 use Rattle.operator_laws.specs.Applied.{applied}
 use Rattle.op_unary.specs.Inputs.{input_values}
 use Rattle.op_unary.proofs.by_row.apply_to.Goals as goal

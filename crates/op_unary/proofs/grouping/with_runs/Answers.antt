@@ -3,11 +3,11 @@ use Rattle.std.proofs.Math.Seq.{take-add}
 use Rattle.std.proofs.lemmas.List.{append_assoc, length-drop, length-take-le, map-append, take_rest}
 use Rattle.bag_laws.specs.Rows.{OneRow as Row}
 use Rattle.plan_model.specs.Operators.{key_of}
-use Rattle.op_unary.specs.Groups.{AreTold, TellsOf}
+use Rattle.op_unary.specs.Groups.{AreGroupsOf, IsGroupOf}
 use Rattle.op_unary.specs.declared.group.Group.{Group}
 use Rattle.op_unary.specs.declared.keyed.Keyed.{Keyed}
 use Rattle.op_unary.proofs.Runs.{IsFront, front, front_of}
-use Rattle.op_unary.proofs.Told.{told_append, told_one}
+use Rattle.op_unary.proofs.GroupRows.{groups_append, groups_one}
 use Rattle.op_unary.proofs.grouping.with_runs.Goals as goal
 
 abbrev row : Keyed → Row
@@ -57,18 +57,18 @@ loop-start-preserved c =
     let group = c.in_ok-run_group.field-0 in
     let run = run_of keys sorted start n c.index-rest-0.result c.loop-start-test.true c.index-rest-0.is c.run_length-size.ensures in
     let long = length-drop start sorted in
-    let tells : TellsOf keys aggs group (map row (take n (drop start sorted))) =
-    subst (λ (l : List Keyed). TellsOf keys aggs group (map row (take n l))) (take_rest sorted start) c.in_ok-run_group.ensures in
+    let is_group : IsGroupOf keys aggs group (map row (take n (drop start sorted))) =
+    subst (λ (l : List Keyed). IsGroupOf keys aggs group (map row (take n l))) (take_rest sorted start) c.in_ok-run_group.ensures in
     let more : map row (take (start + n) sorted) ≡ map row (take start sorted) ++ map row (take n (drop start sorted)) =
     ap (map row) (take-add start n sorted) ∙ map-append row (take start sorted) (take n (drop start sorted)) in
     record {
       within = omega (arith, run.within, long, c.loop-start-test.true);
-      told = λ before t.
-          subst (λ (l : List Group). AreTold keys aggs l (before ++ map row (take (start + n) sorted))) (sym c.in_ok-push.ensures.items)
-          (subst (λ (l : List Row). AreTold keys aggs (c.loop-start.all.items ++ group ∷ []) l)
+      holds = λ before t.
+          subst (λ (l : List Group). AreGroupsOf keys aggs l (before ++ map row (take (start + n) sorted))) (sym c.in_ok-push.ensures.items)
+          (subst (λ (l : List Row). AreGroupsOf keys aggs (c.loop-start.all.items ++ group ∷ []) l)
           (append_assoc before (map row (take start sorted)) (map row (take n (drop start sorted))) ∙ ap (λ (l : List Row). before ++ l) (sym more))
-          (told_append keys aggs c.loop-start.all.items (group ∷ []) (before ++ map row (take start sorted)) (map row (take n (drop start sorted)))
-          (c.loop-start.invariant.told before t) (told_one keys aggs group (map row (take n (drop start sorted))) tells)));
+          (groups_append keys aggs c.loop-start.all.items (group ∷ []) (before ++ map row (take start sorted)) (map row (take n (drop start sorted)))
+          (c.loop-start.invariant.holds before t) (groups_one keys aggs group (map row (take n (drop start sorted))) is_group)));
     }
 
 pub loop-start-smaller : goal.loop-start-smaller

@@ -7,7 +7,7 @@ use Rattle.plan_model.specs.declared.agg.Agg.{Agg}
 use Rattle.op_unary.specs.Accumulators.{finish}
 use Rattle.op_unary.specs.Groups.{GroupTable, StandsFor}
 use Rattle.op_unary.specs.declared.group.Group.{Group}
-use Rattle.op_unary.proofs.Told.{made_of}
+use Rattle.op_unary.proofs.GroupRows.{made_of}
 use Rattle.op_unary.proofs.groups.Groups.into_rows.Goals as goal
 
 pub returns : goal.returns
@@ -19,5 +19,5 @@ returns c =
     (λ made is keys aggs rows stands.
     let own = subst (λ (table : GroupTable). StandsFor keys aggs table rows) (sym c.self.view_is) stands in
     subst (λ (some : List Row). SameBag some (aggregated keys aggs rows)) (sym is)
-    (made_of keys aggs groups rows (c.in_ok-groups.ensures.told keys aggs rows own.told) c.in_ok-groups.ensures.differ))
+    (made_of keys aggs groups rows (c.in_ok-groups.ensures.holds keys aggs rows own.holds) c.in_ok-groups.ensures.differ))
     c.into_rows.ensures

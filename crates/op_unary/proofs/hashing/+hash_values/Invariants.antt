@@ -1,5 +1,0 @@
-use Rattle.std.proofs.Common.{length}
-use Rattle.op_unary.proofs.hashing.+hash_values.Given as goal
-
-abbrev pub decreases-hash_values : goal.decreases-hash_values
-decreases-hash_values l = length l.values.now
