@@ -1,10 +1,9 @@
 -- No node stands in two chains, or twice in one.
 use Rattle.std.proofs.Common.{◌≡◌, ℕ, zero, suc, ◌+◌, ◌<◌, ◌≤◌, ◌==◌, nat_eq, Bool, true, false, not, ◌||◌, cond, ◌⊎◌, inl, inr, List, [], ◌∷◌, ◌++◌, length, filter, find, get_or, Option, Some, None, slice_get, refl, sym, ◌∙◌, ap, subst, arith}
-use Rattle.std.specs.List.{list_all, flat_map, AllByRecursion, IsDistinct}
+use Rattle.std.specs.List.{list_all, AllByRecursion, IsDistinct}
 use Rattle.std.specs.Option.{option_map, option_map_or}
 use Rattle.std.proofs.lemmas.Bool.{false≢true}
-use Rattle.std.proofs.lemmas.List.Folds.{list_any-append}
-use Rattle.std.proofs.lemmas.Map.Keys.{IsDistinct-head, IsDistinct-tail, IsDistinct-cons}
+use Rattle.std.proofs.lemmas.Map.Keys.{IsDistinct-cons}
 use Rattle.std.proofs.lemmas.Option.{none-some, slice_get-get_or}
 use Rattle.plan_model.specs.Checks.{plan_faults}
 use Rattle.plan_model.specs.Operators.{may_rebalance, takes_one}
@@ -18,7 +17,7 @@ use Rattle.vertex_builder.proofs.Chaining.{no_node}
 use Rattle.vertex_builder.specs.Chains.{is_among, chain_from, chain_of, TakesAfter}
 use Rattle.vertex_builder.proofs.Following.{chained_is_later, same_item}
 use Rattle.vertex_builder.proofs.Covered.{goes_into, starts}
-use Rattle.vertex_builder.proofs.Membership.{same_yes, same_number, other_number, either_left, either_right, both_left, both_right, all_map, none_twice, IsIn, in_one}
+use Rattle.vertex_builder.proofs.Membership.{same_number, other_number, either_right, both_left, both_right, all_map, none_twice, IsIn, in_one}
 use Rattle.plan_model.proofs.Laws.{one_input}
 
 -- ---- what stands in lists

@@ -11,7 +11,7 @@ use Rattle.vertex_builder.specs.Edges.{edges_into, edges_from, edges_of, consume
 use Rattle.vertex_builder.specs.Chains.{is_among}
 use Rattle.vertex_builder.proofs.Chaining.{no_node}
 use Rattle.plan_model.proofs.Laws.{inputs_earlier}
-use Rattle.vertex_builder.specs.Chains.{is_among, chain_from, chain_of, HasHead}
+use Rattle.vertex_builder.specs.Chains.{is_among, chain_from, HasHead}
 use Rattle.vertex_builder.proofs.Following.{chained_is_later}
 use Rattle.vertex_builder.proofs.Membership.{same_yes, same_number, either_left, either_right, both_left, IsIn, in_front, in_back, in_filter, in_one, all_in, one_passes}
 

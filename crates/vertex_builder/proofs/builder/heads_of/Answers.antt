@@ -1,4 +1,4 @@
-use Rattle.std.proofs.Common.{◌≡◌, Bool, ℕ, ◌<◌, false, List, [], ◌∷◌, ◌++◌, length, get_or, All, Vec, Global, sym, ◌∙◌, ap, subst, arith}
+use Rattle.std.proofs.Common.{◌≡◌, Bool, ℕ, ◌<◌, List, [], ◌∷◌, ◌++◌, length, All, Vec, Global, sym, ◌∙◌, ap, subst, arith}
 use Rattle.std.proofs.lemmas.List.Elements.{All-push}
 use Rattle.vertex_builder.specs.Vertices.{is_makeable}
 use Rattle.vertex_builder.proofs.Ready.{marks_of_all, ready, heads_with, heads_without}

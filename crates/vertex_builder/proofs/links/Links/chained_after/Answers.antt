@@ -1,4 +1,4 @@
-use Rattle.std.proofs.Common.{◌≡◌, true, false, get_or, sym, ◌∙◌, refl}
+use Rattle.std.proofs.Common.{true, get_or, sym, ◌∙◌, refl}
 use Rattle.vertex_builder.specs.declared.edge.Edge.{Edge}
 use Rattle.vertex_builder.proofs.Chaining.{nothing_chained, one_chained, chains_at}
 use Rattle.vertex_builder.proofs.links.Links.chained_after.Goals as goal

@@ -1,7 +1,6 @@
-use Rattle.std.proofs.Common.{◌≡◌, ◌<◌, List, length, All, sym, ◌∙◌, ap, subst}
+use Rattle.std.proofs.Common.{◌<◌, List, length, All, sym, ◌∙◌, subst}
 use Rattle.plan_model.specs.declared.node.Node.{Node}
 use Rattle.vertex_builder.specs.declared.edge.Edge.{Edge}
-use Rattle.vertex_builder.specs.Edges.{consumer_edges}
 use Rattle.vertex_builder.specs.Links.{IsBelow}
 use Rattle.vertex_builder.proofs.Chaining.{edges_are, edges_lead_on}
 use Rattle.vertex_builder.proofs.links.Links.consumer_edges.Goals as goal

@@ -1,4 +1,4 @@
-use Rattle.std.proofs.Common.{◌≡◌, ◌<◌, List, length, get_or, sym, subst}
+use Rattle.std.proofs.Common.{◌<◌, List, length, get_or, sym, subst}
 use Rattle.std.proofs.lemmas.Option.{slice_get-get_or}
 use Rattle.plan_model.proofs.Laws.{inputs_earlier, few_inputs}
 use Rattle.plan_model.specs.declared.node.Node.{Node}
