@@ -106,11 +106,11 @@ rank_of BadNumber = 4
 rank_of Repeated = 5
 rank_of OtherCall = 6
 
--- whether the one fault is told before the other
+-- whether the one fault comes before the other
 abbrev pub is_before : FaultAt → FaultAt → Bool
 is_before a b = nat_lt a.0 b.0 || (a.0 == b.0 && nat_lt (rank_of a.1) (rank_of b.1))
 
--- the one that is told first, if there is another
+-- the one that comes first, if there is another
 abbrev pub earlier_of : FaultAt → Option FaultAt → Option FaultAt
 earlier_of a None = Some a
 earlier_of a (Some b) = Some (if is_before b a then b else a)

@@ -21,7 +21,7 @@ use Rattle.expr_json.specs.Reading.{expr_of}
 use Rattle.expr_json.specs.Spelling.{expr_value, test_value}
 use Rattle.expr_json.proofs.Laws.{expr_gives, test_gives, lists-expr, lists-test, good-expr, good-test}
 use Rattle.job_json.specs.Members.{is_name, is_number, u32_in, name_in, items_list, one_item_in, two_items_in, each, name_of, number_of, list_of}
-use Rattle.job_json.specs.Parts.{not_too_long, kind_in, column_in, columns_of, keys_of, inputs_of, pair_in, is_pair, pairs_of, agg_in, column_agg_in, is_agg, aggs_of, told_depth, too_deep_among, where_of, exprs_of, separator_of, join_kind_named, join_kind_of, ship_of}
+use Rattle.job_json.specs.Parts.{not_too_long, kind_in, column_in, columns_of, keys_of, inputs_of, pair_in, is_pair, pairs_of, agg_in, column_agg_in, is_agg, aggs_of, capped_depth, too_deep_among, where_of, exprs_of, separator_of, join_kind_named, join_kind_of, ship_of}
 use Rattle.job_json.specs.Spelling.{list_value, number_value, kind_word, column_value, pair_value, agg_value, join_kind_word}
 use Rattle.job_json.specs.WellFormed.{is_u32, is_u32_pair, is_u32_agg, is_named, is_shallow_expr, is_shallow_test, IsShort}
 use Rattle.job_json.proofs.Tools.{both_true, both_parts}
@@ -134,10 +134,10 @@ aggs_at k d aggs e h = rw (list_at k (codes "aggs") d (map agg_value aggs) e, al
 low_test : (n : ℕ) → nat_le n 32 ≡ true → nat_lt 32 (min n (2 ^ 64 - 1)) ≡ false
 low_test n h = grind (arith, nat_tests)
 
-test_low : (t : Pred) → is_shallow_test t ≡ true → nat_lt 32 (told_depth (test_value t)) ≡ false
+test_low : (t : Pred) → is_shallow_test t ≡ true → nat_lt 32 (capped_depth (test_value t)) ≡ false
 test_low t h = low_test (list_depth (test_value t)) (ap (λ n. nat_le n 32) (lists-test t) ∙ (both_parts (test_in_range t) (nat_le (test_depth t) 32) h).1)
 
-expr_low : (e : Expr) → is_shallow_expr e ≡ true → nat_lt 32 (told_depth (expr_value e)) ≡ false
+expr_low : (e : Expr) → is_shallow_expr e ≡ true → nat_lt 32 (capped_depth (expr_value e)) ≡ false
 expr_low e h = low_test (list_depth (expr_value e)) (ap (λ n. nat_le n 32) (lists-expr e) ∙ (both_parts (in_range e) (nat_le (expr_depth e) 32) h).1)
 
 pub where_at : (k : Option ℕ) (d : Data) (t : Pred) → get (codes "where") d ≡ Some (test_value t) → is_shallow_test t ≡ true → where_of k d ≡ Ok t

@@ -19,7 +19,7 @@ use Rattle.expr_json.specs.Reading.{expr_of, test_of}
 use Rattle.expr_json.proofs.Laws.{expr_takes, test_takes, lists-expr, lists-test}
 use Rattle.job_json.specs.Faults.{or_fault, check}
 use Rattle.job_json.specs.Members.{is_name, is_number, u32_in, name_in, two_items_in, each, member_of, name_of, number_of, list_of}
-use Rattle.job_json.specs.Parts.{not_too_long, kind_in, column_in, columns_of, keys_of, inputs_of, pair_in, is_pair, pairs_of, is_count, agg_in, column_agg_in, is_agg, aggs_of, told_depth, too_deep_among, not_deep, where_of, exprs_of, ascii_in, separator_of}
+use Rattle.job_json.specs.Parts.{not_too_long, kind_in, column_in, columns_of, keys_of, inputs_of, pair_in, is_pair, pairs_of, is_count, agg_in, column_agg_in, is_agg, aggs_of, capped_depth, too_deep_among, not_deep, where_of, exprs_of, ascii_in, separator_of}
 use Rattle.job_json.specs.WellFormed.{is_u32, is_u32_pair, is_u32_agg, is_named, is_shallow_expr, is_shallow_test, IsShort}
 use Rattle.job_json.proofs.Tools.{read_then, same_Ok, checked, there, found_then, mapped_then, chosen, both_true, both_parts, each_passes, each_all}
 
@@ -167,7 +167,7 @@ not_deep_one k false n rest u e = (refl, e)
 all_shallow : (k : Option ℕ) (items : List Data) (u : Unit {0}) → not_deep k (too_deep_among items) ≡ Ok u → list_all is_shallow items ≡ true
 all_shallow k [] u e = refl
 all_shallow k (d ∷ ds) u e =
-    let p = not_deep_one k (nat_lt 32 (told_depth d)) (told_depth d) (too_deep_among ds) u e in
+    let p = not_deep_one k (nat_lt 32 (capped_depth d)) (capped_depth d) (too_deep_among ds) u e in
     both_true (is_shallow d) (list_all is_shallow ds) (told_low (list_depth d) p.0) (all_shallow k ds u p.1)
 
 expr_passes : (d : Data) (x : Expr) → is_shallow d ≡ true → expr_of d ≡ Some x → is_shallow_expr x ≡ true

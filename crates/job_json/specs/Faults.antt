@@ -39,8 +39,8 @@ Tells NoMemory reading = ⊤
 
 -- the error tells this fault, unless memory ran out
 abbrev pub TellsFault : JobError → JobFault → Type 0
-TellsFault (Fault f) told = f ≡ told
-TellsFault NoMemory told = ⊤
+TellsFault (Fault f) expected = f ≡ expected
+TellsFault NoMemory expected = ⊤
 
 -- what a function returned, seen by `seen`, is the value or the first fault, unless memory ran out
 abbrev pub Gives : {A B : Type 0} → (A → B) → Result A JobError → Result B JobFault → Type 0

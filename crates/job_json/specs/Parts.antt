@@ -134,12 +134,12 @@ aggs_of node d = do
 -- ---- expressions and tests
 
 -- the depth as a number of 64 bits; a value that was read from a text has one of at most 127
-abbrev pub told_depth : Data → ℕ
-told_depth value = min (list_depth value) (2 ^ 64 - 1)
+abbrev pub capped_depth : Data → ℕ
+capped_depth value = min (list_depth value) (2 ^ 64 - 1)
 
 -- the depth of the first of these that is too deep
 abbrev pub too_deep_among : List Data → Option ℕ
-too_deep_among values = find (λ depth. nat_lt DEPTH_LIMIT depth) (map told_depth values)
+too_deep_among values = find (λ depth. nat_lt DEPTH_LIMIT depth) (map capped_depth values)
 
 -- no fault, unless something is too deep
 abbrev pub not_deep : Option ℕ → Option ℕ → Result ⊤ JobFault

@@ -36,7 +36,7 @@ impl NodeReader {
     }
 
     fn named_fault(self, kind: JobFaultKind, name: &[u8]) -> Result<JobFault, NoMemory>
-        ensures { IfOk result (λ made. made ≡ fault kind self.node name.now) }
+        ensures { IfOk result (λ named. named ≡ fault kind self.node name.now) }
     {
         let name = Bytes::from_slice(self.alloc, name)?;
         Ok(JobFault {

@@ -1,4 +1,4 @@
-//! Nodes: the members of each are read in the order in which their faults are told.
+//! Nodes: the members of each are read in the order in which faults are looked for.
 ghost use Rattle.std.specs.Prelude.{◌≡◌, ◌≤◌, ◌<◌, ◌^◌, ◌∷◌, [], length, map, Some, IfOk, IsTrue};
 ghost use Rattle.std.specs.List.{list_all};
 ghost use Rattle.job_json.specs.WellFormed.{has_utf8_texts_in};

@@ -21,7 +21,7 @@ pub record AreValues (count : ℕ) (values : List Value) : Type 0 where
   pub width : length values ≡ count
   pub each : AllByRecursion ValueFits values
 
--- why no rows are given
+-- why no rows are decoded
 abbrev pub IsCause : List ℕ → RowError → Type 0
 IsCause bytes (Bad at) = StopsAt bytes at
 IsCause bytes NoMemory = Unit {0}

@@ -5,8 +5,7 @@ use crate::NoMemory;
 use std::alloc::Global;
 use std::marker::Model;
 
-/// A list of bytes: a name, a text, a file's content. It grows with the allocator that it was made
-/// with.
+/// A list of bytes: a name, a text, a file's content. It grows with the allocator of its `new`.
 #[derive(Debug, Drop)]
 pub struct Bytes {
     items: Vec<u8>,
@@ -31,7 +30,7 @@ impl Bytes {
 
     /// A copy of these bytes.
     pub fn from_slice(alloc: Global, bytes: &[u8]) -> Result<Self, NoMemory>
-        ensures { IfOk result (λ made. made ≡ bytes.now) }
+        ensures { IfOk result (λ copy. copy ≡ bytes.now) }
     {
         Ok(Bytes {
             items: bytes.to_vec(alloc)?,

@@ -5,7 +5,7 @@ use crate::{Bytes, NoMemory};
 use std::alloc::Global;
 use std::cmp::Ordering;
 
-/// The greatest length of a text, in bytes. A longer one is read and made as Null.
+/// The greatest length of a text, in bytes. A longer one is read and computed as Null.
 pub const TEXT_LIMIT: usize = 16_777_216;
 
 /// One value of a row.

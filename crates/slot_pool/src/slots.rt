@@ -31,14 +31,14 @@ impl Slots {
     /// This many workers with this many slots each, all free, and no worker blocked.
     pub fn new(alloc: Global, workers: u32, each: u32) -> Result<Self, NoMemory>
         requires { workers * each < 2 ^ 32 }
-        ensures { IfOk result (λ made. made ≡ replicate workers (idle each)) }
+        ensures { IfOk result (λ pool. pool ≡ replicate workers (idle each)) }
     {
-        let mut made = Vec::with_capacity(alloc, workers as usize)?;
+        let mut pool = Vec::with_capacity(alloc, workers as usize)?;
         for _ in 0..workers {
-            made.push(Worker::new(alloc, each)?)?;
+            pool.push(Worker::new(alloc, each)?)?;
         }
         Ok(Slots {
-            workers: made,
+            workers: pool,
             free: workers * each,
         })
     }
@@ -65,7 +65,7 @@ impl Slots {
     /// Gives back a slot that is taken.
     pub fn give(&mut self, slot: SlotId)
         requires { IsTrue (is_taken self.old slot) }
-        ensures given { self.new ≡ with_slot self.old slot false }
+        ensures freed { self.new ≡ with_slot self.old slot false }
         ensures others { ChangesOnly self.old self.new slot false }
     {
         self.workers[slot.worker as usize].mark(slot.slot, false);

@@ -26,7 +26,7 @@ impl Model for Worker {
 impl Worker {
     /// A worker with this many free slots, and no block.
     pub fn new(alloc: Global, each: u32) -> Result<Self, NoMemory>
-        ensures { IfOk result (λ made. made ≡ idle each) }
+        ensures { IfOk result (λ worker. worker ≡ idle each) }
     {
         Ok(Worker {
             taken: vec![in alloc; false; each as usize]?,

@@ -5,10 +5,10 @@ use Rattle.slot_pool.proofs.slots.Slots.new.Goals as goal
 
 pub invariant_of-result : goal.invariant_of-result
 invariant_of-result c =
-    let all : c.loop.made.items ≡ replicate c.args.workers (idle c.args.each) =
+    let all : c.loop.pool.items ≡ replicate c.args.workers (idle c.args.each) =
     c.loop.invariant ∙ ap (λ n. replicate n (idle c.args.each)) (omega arith) in
-    let free : free_slots c.loop.made.items ≡ c.args.workers * c.args.each =
+    let free : free_slots c.loop.pool.items ≡ c.args.workers * c.args.each =
     ap free_slots all ∙ free_slots-replicate c.args.workers c.args.each in
-    let slots : slots_of c.loop.made.items ≡ c.args.workers * c.args.each =
+    let slots : slots_of c.loop.pool.items ≡ c.args.workers * c.args.each =
     ap slots_of all ∙ slots_of-replicate c.args.workers c.args.each in
     (sym free, omega arith)
