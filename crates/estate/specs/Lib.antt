@@ -3,6 +3,7 @@ pub mod Changes
 pub mod Contents
 pub mod Disk
 pub mod Holding
+pub mod Limit
 pub mod Memory
 pub mod Parts
 pub mod PastLaws

@@ -1,4 +1,4 @@
--- What an estate in memory may leave is what contracts say.
+-- A proof, not a definition: what an estate in memory may leave is what contracts say of every estate.
 use Rattle.std.specs.Prelude.{◌≡◌, ◌≢◌, ◌⊎◌, ℕ, zero, suc, ◌+◌, ◌-◌, ◌<◌, ◌≤◌, min, Bool, true, false, cond, not, ◌&&◌, nat_le, AllPairs, Contains, List, [], ◌∷◌, ◌++◌, length, take, drop, map, None}
 use Rattle.std.specs.List.{filter}
 use Rattle.std.proofs.Common.{inl, inr, ⊎_elim, refl, sym, ◌∙◌, ap, subst, arith, append_assoc, length-append, length-take, length-drop}

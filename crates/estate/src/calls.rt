@@ -1,4 +1,5 @@
-ghost use Rattle.std.specs.Prelude.{◌≡◌, ◌↔◌, ◌+◌, ◌≤◌, ◌^◌, min, IfOk, IsTrue};
+ghost use Rattle.std.specs.Prelude.{◌≡◌, ◌↔◌, ◌+◌, min, IfOk, IsTrue};
+ghost use Rattle.estate.specs.Limit.{MayBeCounted};
 
 use crate::Numbers;
 use row_core::NoMemory;
@@ -13,7 +14,7 @@ pub struct Calls {
     /// How many there were. The first has the number 0.
     pub count: u64,
     failing: Vec<u64>,
-    ghost few: { count ≤ 2 ^ 61 },
+    ghost few: { MayBeCounted count },
 }
 
 impl Calls {

@@ -1,5 +1,5 @@
 -- What a crash may leave in each of the two writes of a flush.
-use Rattle.std.proofs.Common.{◌≡◌, inl, inr, ⊎_elim, ℕ, ◌+◌, ◌<◌, ◌^◌, List, [], ◌∷◌, ◌++◌, length, Some, None, IsTrue, sym, ◌∙◌, ap, subst, arith, append_assoc, length-append}
+use Rattle.std.proofs.Common.{◌≡◌, inl, inr, ⊎_elim, ℕ, ◌+◌, ◌<◌, ◌^◌, List, [], ◌∷◌, ◌++◌, length, None, IsTrue, sym, ◌∙◌, ap, subst, arith, append_assoc, length-append}
 use Rattle.estate.specs.Holding.{Holding}
 use Rattle.estate.specs.World.{World, IsWorld}
 use Rattle.estate.specs.Changes.{Torn, Holds, Step, Stays, Leads}

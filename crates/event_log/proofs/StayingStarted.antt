@@ -1,6 +1,6 @@
 -- A log that was started stays so while other parts of its estate are called.
 use Rattle.std.proofs.Common.{ℕ, List, Option, None, IsTrue, ◌∙◌, subst}
-use Rattle.estate.specs.Holding.{Holding, StoredPart}
+use Rattle.estate.specs.Holding.{StoredPart}
 use Rattle.estate.specs.declared.commit.Commit.{Commit}
 use Rattle.estate.specs.World.{World, IsWorld}
 use Rattle.estate.specs.Changes.{Same, Step, Leads}

@@ -1,4 +1,5 @@
 use Rattle.std.proofs.Common.{inr, List, subst, refl, ◌≡◌, ◌+◌, ◌*◌, ◌≤◌, length, arith, ℕ}
+use Rattle.estate.specs.declared.calls.TheConstants.{MOST_CALLS}
 use Rattle.estate.specs.declared.loss.Loss.{Loss}
 use Rattle.estate.specs.Shelf.{held_in}
 use Rattle.estate.specs.Calls.{LosesDue}
@@ -18,7 +19,7 @@ returns-clause-leads c =
     let enters = enters_by m.log.changes.items m.shelf.parts.items c.lose_due.new.shelf.parts.items m.sink.items (clock_of m) c.clock-within.result m.log_faults m.shelf_faults m.sink_faults m.losses c.lose_due.new.losses
     c.clock-within.ensures.clock c.lose_due.ensures.loses c.lose_due.ensures.later c.lose_due.ensures.lost in
     let counted : c.begin.new.self.count ≡ m.calls.count + 1 =
-    omega (arith, c.begin.ensures.count, below_by c.is_full.result m.calls.count 2305843009213693952 c.is_full.ensures c.if-is_full.false m.calls.few) in
+    omega (arith, c.begin.ensures.count, below_by c.is_full.result m.calls.count MOST_CALLS c.is_full.ensures c.if-is_full.false m.calls.few) in
     let later : clock_of m + 1 ≤ 2 * c.begin.new.self.count + length m.drops.items = omega arith in
     enter_leads (history_of m) _ (clock_of m) (2 * c.begin.new.self.count + length m.drops.items) (counts_of m) _ m.ended
     (ended_later (history_of m) _ (clock_of m) _ (counts_of m) _ m.ended enters later) (omega arith) enters
@@ -29,7 +30,7 @@ returns-clause-entered c = λ goes_on.
     let enters = enters_by m.log.changes.items m.shelf.parts.items c.lose_due.new.shelf.parts.items m.sink.items (clock_of m) c.clock-within.result m.log_faults m.shelf_faults m.sink_faults m.losses c.lose_due.new.losses
     c.clock-within.ensures.clock c.lose_due.ensures.loses c.lose_due.ensures.later c.lose_due.ensures.lost in
     let counted : c.begin.new.self.count ≡ m.calls.count + 1 =
-    omega (arith, c.begin.ensures.count, below_by c.is_full.result m.calls.count 2305843009213693952 c.is_full.ensures c.if-is_full.false m.calls.few) in
+    omega (arith, c.begin.ensures.count, below_by c.is_full.result m.calls.count MOST_CALLS c.is_full.ensures c.if-is_full.false m.calls.few) in
     let later : clock_of m + 1 ≤ 2 * c.begin.new.self.count + length m.drops.items = omega arith in
     record { drops = refl; enters = enters; clock = omega arith }
 
@@ -39,7 +40,7 @@ invariant_of-self-2-clause-ended c =
     let enters = enters_by m.log.changes.items m.shelf.parts.items c.lose_due.new.shelf.parts.items m.sink.items (clock_of m) c.clock-within.result m.log_faults m.shelf_faults m.sink_faults m.losses c.lose_due.new.losses
     c.clock-within.ensures.clock c.lose_due.ensures.loses c.lose_due.ensures.later c.lose_due.ensures.lost in
     let counted : c.begin.new.self.count ≡ m.calls.count + 1 =
-    omega (arith, c.begin.ensures.count, below_by c.is_full.result m.calls.count 2305843009213693952 c.is_full.ensures c.if-is_full.false m.calls.few) in
+    omega (arith, c.begin.ensures.count, below_by c.is_full.result m.calls.count MOST_CALLS c.is_full.ensures c.if-is_full.false m.calls.few) in
     let later : clock_of m + 1 ≤ 2 * c.begin.new.self.count + length m.drops.items = omega arith in
     ended_later (history_of m) _ (clock_of m) _ (counts_of m) _ m.ended enters later
 
@@ -47,13 +48,13 @@ pub invariant_of-self-2-clause-dropped : goal.invariant_of-self-2-clause-dropped
 invariant_of-self-2-clause-dropped c =
     let m = c.args.self.now in
     let counted : c.begin.new.self.count ≡ m.calls.count + 1 =
-    omega (arith, c.begin.ensures.count, below_by c.is_full.result m.calls.count 2305843009213693952 c.is_full.ensures c.if-is_full.false m.calls.few) in
+    omega (arith, c.begin.ensures.count, below_by c.is_full.result m.calls.count MOST_CALLS c.is_full.ensures c.if-is_full.false m.calls.few) in
     all_until (λ (d : ℕ). d) (2 * m.calls.count) (2 * c.begin.new.self.count) m.drops.items (omega arith) m.dropped
 
 pub returns-then-is_full-clause-call : goal.returns-then-is_full-clause-call
 returns-then-is_full-clause-call c =
     let m = c.args.self.now in
-    let full : m.calls.count ≡ 2305843009213693952 = c.is_full.ensures.0 c.if-is_full.true in
+    let full : m.calls.count ≡ MOST_CALLS = c.is_full.ensures.0 c.if-is_full.true in
     (((omega (arith, full), refl), ((λ failed. inr full), (λ next. refl))), refl, λ lt. absurd (omega (arith, full, lt)))
 
 pub returns-clause-call : goal.returns-clause-call
@@ -62,7 +63,7 @@ returns-clause-call c =
     let enters = enters_by m.log.changes.items m.shelf.parts.items c.lose_due.new.shelf.parts.items m.sink.items (clock_of m) c.clock-within.result m.log_faults m.shelf_faults m.sink_faults m.losses c.lose_due.new.losses
     c.clock-within.ensures.clock c.lose_due.ensures.loses c.lose_due.ensures.later c.lose_due.ensures.lost in
     let counted : c.begin.new.self.count ≡ m.calls.count + 1 =
-    omega (arith, c.begin.ensures.count, below_by c.is_full.result m.calls.count 2305843009213693952 c.is_full.ensures c.if-is_full.false m.calls.few) in
+    omega (arith, c.begin.ensures.count, below_by c.is_full.result m.calls.count MOST_CALLS c.is_full.ensures c.if-is_full.false m.calls.few) in
     let later : clock_of m + 1 ≤ 2 * c.begin.new.self.count + length m.drops.items = omega arith in
     let ended = ended_later (history_of m) _ (clock_of m) _ (counts_of m) _ m.ended enters later in
     let old = m.shelf.parts.items in
