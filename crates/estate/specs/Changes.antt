@@ -94,10 +94,17 @@ MayGain (Some x) old new = (new ≡ old) ⊎ (new ≡ old ++ x ∷ [])
 -- a name was held before, or it is the part's that is put, which then stands in `ever`
 abbrev pub WasHeld : Option StoredPart → Holding → Holding → PartName → Type 0
 WasHeld None old new name = Contains old.held name
-WasHeld (Some part) old new name = Contains old.held name ⊎ ((name ≡ part.name) × (new.ever ≡ old.ever ++ part ∷ []))
+WasHeld (Some part) old new name =
+    Contains old.held name ⊎ ((name ≡ part.name) × (new.ever ≡ old.ever ++ part ∷ []))
 
--- what a call may make of a holding: its log goes by a relation, and at most one part and one commit are added
-pub record Step (writes : List ℕ → List ℕ → Type 0) (part : Option StoredPart) (commit : Option Commit) (old new : Holding) : Type 0 where
+-- what a call may make of a holding: its log goes by a relation, and at most one part and one
+-- commit are added
+pub record Step
+    (writes : List ℕ → List ℕ → Type 0)
+    (part : Option StoredPart)
+    (commit : Option Commit)
+    (old new : Holding)
+    : Type 0 where
   pub log : writes old.log new.log
   pub ever : MayGain part old.ever new.ever
   pub commits : MayGain commit old.commits new.commits
@@ -127,6 +134,10 @@ HasPut part old new = (new.ever ≡ old.ever ++ part ∷ []) × Contains new.hel
 abbrev pub HasNotPut : StoredPart → Holding → Holding → Type 0
 HasNotPut part old new = (new.ever ≡ old.ever) × ¬ (Contains new.held part.name)
 
+-- this commit was appended
+abbrev pub HasAppended : Commit → Holding → Holding → Type 0
+HasAppended commit old new = new.commits ≡ old.commits ++ commit ∷ []
+
 -- Counts never fall, and where a name is gone a loss was counted.
 pub record Counted (old new : Counts) : Type 0 where
   pub log_faults : old.log_faults ≤ new.log_faults
@@ -134,18 +145,22 @@ pub record Counted (old new : Counts) : Type 0 where
   pub sink_faults : old.sink_faults ≤ new.sink_faults
   pub losses : old.losses ≤ new.losses
 
--- Time goes on: the images since a moment are those that there were, and those since the call began.
+-- Time goes on: the images since a moment are those that there were, and those since the call
+-- began.
 pub record Elapses (old new : World) : Type 0 where
   pub told : new.told ≡ old.told
   pub later : old.now ≤ new.now
-  pub nothing_else : (t : ℕ) (image : Holding) → t ≤ old.now → new.images t image → old.images t image ⊎ new.images old.now image
+  pub nothing_else : (t : ℕ) (image : Holding) → t ≤ old.now → new.images t image →
+      old.images t image ⊎ new.images old.now image
   pub keeps : (t : ℕ) (image : Holding) → t ≤ old.now → old.images t image → new.images t image
   pub counts : Counted old.counts new.counts
-  pub losses : IsTrue old.told → (name : PartName) → Contains old.holding.held name → Contains new.holding.held name ⊎ Rose old.counts.losses new.counts.losses
+  pub losses : IsTrue old.told → (name : PartName) → Contains old.holding.held name →
+      Contains new.holding.held name ⊎ Rose old.counts.losses new.counts.losses
 
--- From old to new time goes on. What is held then, and what a crash since old may leave, come by a step from what was
--- held, and from what a crash at old may have left.
+-- From old to new time goes on. What is held then, and what a crash since old may leave, come by a
+-- step from what was held, and from what a crash at old may have left.
 pub record Leads (step : Holding → Holding → Type 0) (old new : World) : Type 0 where
   pub time : Elapses old new
   pub holding : IsTrue old.told → step old.holding new.holding
-  pub images : (image : Holding) → new.images old.now image → (before : Holding) × old.images old.now before × step before image
+  pub images : (image : Holding) → new.images old.now image →
+      (before : Holding) × old.images old.now before × step before image

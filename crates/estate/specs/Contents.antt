@@ -3,8 +3,8 @@ use Rattle.std.specs.Prelude.{◌≡◌, ℕ, ◌≤◌, Bool, IsTrue, List, [],
 use Rattle.std.specs.Str.{bytes_eq}
 use Rattle.estate.specs.declared.table.Table.{Table}
 
--- The job's text, the files of each table, and how often the inputs have failed. Text and files say something only
--- where they are told.
+-- The job's text, the files of each table, and how often the inputs have failed. Text and files say
+-- something only where they are told.
 pub record Contents : Type 0 where
   pub told : Bool
   pub job : List ℕ
@@ -21,4 +21,5 @@ pub record KeepsContents (old new : Contents) : Type 0 where
 -- the files of the first entry of a table, or none
 abbrev pub files_in : List Table → List ℕ → List (List ℕ)
 files_in [] name = []
-files_in (table ∷ tables) name = if bytes_eq table.table name then table.files else files_in tables name
+files_in (table ∷ tables) name =
+    if bytes_eq table.table name then table.files else files_in tables name

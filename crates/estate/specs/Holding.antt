@@ -42,4 +42,5 @@ no_counts = record { log_faults = 0; shelf_faults = 0; sink_faults = 0; losses =
 -- the job's text of the first commit of this id
 abbrev pub job_under : List ℕ → List Commit → Option (List ℕ)
 job_under id [] = None
-job_under id (commit ∷ commits) = if bytes_eq commit.id id then Some commit.job else job_under id commits
+job_under id (commit ∷ commits) =
+    if bytes_eq commit.id id then Some commit.job else job_under id commits

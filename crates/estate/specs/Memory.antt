@@ -15,7 +15,8 @@ use Rattle.estate.specs.World.{World}
 use Rattle.estate.specs.Pasts.{Past, past_world, History, past_at, Enters}
 
 abbrev pub mem_contents : MemInputs → Contents
-mem_contents inputs = record { told = true; job = inputs.job; files = files_in inputs.tables; faults = inputs.faults }
+mem_contents inputs =
+    record { told = true; job = inputs.job; files = files_in inputs.tables; faults = inputs.faults }
 
 abbrev pub mem_printed : MemPrinter → Printed
 mem_printed printer = record { told = true; bytes = printer.bytes; faults = printer.faults }
@@ -24,10 +25,19 @@ abbrev pub clock_readings : FixedClock → Readings
 clock_readings clock = record { told = true; at = λ k. reading clock.moments (clock.place + k) }
 
 abbrev pub history_of : MemEstate → History
-history_of estate = record { log = estate.log.changes.items; shelf = estate.shelf.parts.items; sink = estate.sink.items }
+history_of estate = record {
+  log = estate.log.changes.items;
+  shelf = estate.shelf.parts.items;
+  sink = estate.sink.items;
+}
 
 abbrev pub counts_of : MemEstate → Counts
-counts_of estate = record { log_faults = estate.log_faults; shelf_faults = estate.shelf_faults; sink_faults = estate.sink_faults; losses = estate.losses }
+counts_of estate = record {
+  log_faults = estate.log_faults;
+  shelf_faults = estate.shelf_faults;
+  sink_faults = estate.sink_faults;
+  losses = estate.losses;
+}
 
 -- Time goes on by two at each call, and by one where `lose` drops a part.
 abbrev pub clock_of : MemEstate → ℕ
@@ -55,7 +65,8 @@ present_of estate = past_at (history_of estate) (clock_of estate)
 -- a call has begun
 pub record HasEntered (old new : MemEstate) : Type 0 where
   pub drops : new.drops.items ≡ old.drops.items
-  pub enters : Enters (history_of old) (history_of new) (clock_of old) (counts_of old) (counts_of new)
+  pub enters : Enters (history_of old) (history_of new) (clock_of old) (counts_of old)
+      (counts_of new)
   pub clock : clock_of new ≡ clock_of old + 2
 
 -- the numbers of the calls of an estate that fail
@@ -76,4 +87,5 @@ IsCall failed old new =
     FailsAsListed failed old.calls new.calls
     × (losing_of new ≡ losing_of old)
     × (calls_of old < MOST_CALLS →
-    LosesDue (losing_of old) (calls_of old) (mem_world old).holding.held (mem_world new).holding.held)
+    LosesDue (losing_of old) (calls_of old) (mem_world old).holding.held
+    (mem_world new).holding.held)

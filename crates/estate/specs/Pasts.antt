@@ -21,7 +21,12 @@ pub record Past : Type 0 where
 
 -- what is held of it where nothing is torn
 abbrev pub whole : Past → Holding
-whole past = record { log = whole_log past.disk; ever = past.ever; held = past.held; commits = past.commits }
+whole past = record {
+  log = whole_log past.disk;
+  ever = past.ever;
+  held = past.held;
+  commits = past.commits;
+}
 
 -- what a crash may leave of it
 pub record IsLeftOf (past : Past) (image : Holding) : Type 0 where
@@ -32,7 +37,13 @@ pub record IsLeftOf (past : Past) (image : Holding) : Type 0 where
 
 -- what a crash leaves by its choice
 abbrev pub chosen : ℕ → Past → Holding
-chosen choice past = record { log = chosen_log choice past.disk; ever = past.ever; held = past.held; commits = past.commits }
+chosen choice past =
+    record {
+      log = chosen_log choice past.disk;
+      ever = past.ever;
+      held = past.held;
+      commits = past.commits;
+    }
 
 -- an estate that tells what it holds, and what it was at each moment up to now
 abbrev pub past_world : (ℕ → Past) → ℕ → Counts → World
@@ -53,6 +64,10 @@ pub record History : Type 0 where
 abbrev pub commits_in : List Committed → List Commit
 commits_in sink = map (λ entry. entry.commit) sink
 
+-- a commit as it stands in an estate of which this is the first moment
+abbrev pub recalled_commit : Committed → Committed
+recalled_commit entry = record { since = 0; commit = entry.commit }
+
 abbrev pub commits_at : ℕ → List Committed → List Commit
 commits_at u sink = commits_in (filter (λ entry. nat_le entry.since u) sink)
 
@@ -63,6 +78,9 @@ past_at history u = record {
   held = held_at u history.shelf;
   commits = commits_at u history.sink;
 }
+
+abbrev pub history : List LogChange → List Shelved → List Committed → History
+history log shelf sink = record { log = log; shelf = shelf; sink = sink }
 
 -- all of it happened up to a moment
 pub record HasEnded (history : History) (now : ℕ) : Type 0 where

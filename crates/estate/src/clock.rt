@@ -1,6 +1,6 @@
 // Clauses on readings hold where the clock tells its coming ones.
-ghost use Rattle.std.specs.Prelude.{◌≡◌, ℕ, ◌+◌, IsTrue};
-ghost use Rattle.estate.specs.Readings.{Readings};
+ghost use Rattle.std.specs.Prelude.{◌≡◌, IsTrue};
+ghost use Rattle.estate.specs.Readings.{Readings, MovesOn, StandsStill};
 
 use std::sync::Wait;
 
@@ -12,10 +12,12 @@ pub trait Clock {
     fn now(&mut self) -> u64
         ensures told { (readings self.new).told ≡ (readings self.old).told }
         ensures first { IsTrue (readings self.old).told → result ≡ (readings self.old).at 0 }
-        ensures next { IsTrue (readings self.old).told → (k : ℕ) → (readings self.new).at k ≡ (readings self.old).at (k + 1) };
+        ensures next { IsTrue (readings self.old).told →
+            MovesOn (readings self.old) (readings self.new) };
 
     /// Lets some time pass. It may wait for another thread.
     fn pause<R: Wait>(&mut self, rt: &R)
         ensures told { (readings self.new).told ≡ (readings self.old).told }
-        ensures same { IsTrue (readings self.old).told → (k : ℕ) → (readings self.new).at k ≡ (readings self.old).at k };
+        ensures same { IsTrue (readings self.old).told →
+            StandsStill (readings self.old) (readings self.new) };
 }

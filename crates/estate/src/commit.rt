@@ -1,4 +1,5 @@
 ghost use Rattle.std.specs.Prelude.{◌≡◌, IfOk};
+ghost use Rattle.estate.specs.Holding.{commit_of};
 
 use row_core::{Bytes, NoMemory};
 use std::alloc::Global;
@@ -18,7 +19,7 @@ impl Commit {
         job: &[u8],
         text: &[u8],
     ) -> Result<Commit, NoMemory>
-        ensures { IfOk result (λ made. made ≡ record { id = id.now; job = job.now; text = text.now }) }
+        ensures { IfOk result (λ made. made ≡ commit_of id.now job.now text.now) }
     {
         Ok(Commit {
             id: Bytes::from_slice(alloc, id)?,

@@ -1,15 +1,17 @@
-// Clauses on content hold where the estate tells what it holds. Every clause on time and crashes is one relation, `Leads`.
+// Clauses on content hold where the estate tells what it holds. Every clause on time and crashes is
+// one relation, `Leads`.
 ghost use Rattle.std.specs.Prelude.{◌≡◌, ◌⊎◌, ◌+◌, ◌≤◌, [], ◌∷◌, ◌++◌, length, take, drop, IsTrue, IfOk, OnOk, IsErrOf};
 ghost use Rattle.estate.specs.declared.estate_error.EstateError.TheVariants.{NoMemory};
 ghost use Rattle.estate.specs.Holding.{part_of, commit_of, IsFresh, job_under};
-ghost use Rattle.estate.specs.Parts.{AnswersCell, AnswersNames};
-ghost use Rattle.estate.specs.World.{World, IsWorld, IsDurable};
-ghost use Rattle.estate.specs.Changes.{Stays, Leads, Writes, Puts, Appends, Holds, HasPut, HasNotPut, LogCause, ShelfCause, SinkCause, LogSteady, ShelfSteady, SinkSteady};
+ghost use Rattle.estate.specs.Parts.{AnswersNames};
+ghost use Rattle.estate.specs.World.{World, IsWorld, IsDurable, AnswersCell};
+ghost use Rattle.estate.specs.Changes.{Stays, Leads, Writes, Puts, Appends, Holds, HasPut, HasNotPut, HasAppended, LogCause, ShelfCause, SinkCause, LogSteady, ShelfSteady, SinkSteady};
 
 use crate::{Edges, EstateError, Names, PartName};
 use row_core::Bytes;
 
-/// The log, the shelf and the sink of a job. Every call may lose parts that are held, and counts that.
+/// The log, the shelf and the sink of a job. Every call may lose parts that are held, and counts
+/// that.
 pub trait Estate {
     /// What it holds, what a crash may leave, and its counts.
     ghost world: { Self → World };
@@ -31,7 +33,8 @@ pub trait Estate {
         ensures cause { LogCause (world self.old) (world self.new) result }
         ensures steady { LogSteady (world self.old) (world self.new) result };
 
-    /// Writes over what is there, and past the end. Until a sync a crash may leave any bytes in the range.
+    /// Writes over what is there, and past the end. Until a sync a crash may leave any bytes in the
+    /// range.
     fn log_write(&mut self, at: u64, bytes: &Bytes) -> Result<(), EstateError>
         requires { IsTrue (world self.old).told → at ≤ length (world self.old).holding.log }
         ensures leads { Leads (Writes at bytes.now) (world self.old) (world self.new) }
@@ -71,7 +74,7 @@ pub trait Estate {
     ) -> Result<Option<Bytes>, EstateError>
         ensures leads { Leads Stays (world self.old) (world self.new) }
         ensures cell { IfOk result (λ found. IsTrue (world self.old).told →
-            AnswersCell name edge cell (world self.old).holding.ever (world self.new).holding.held found) }
+            AnswersCell name edge cell (world self.old) (world self.new) found) }
         ensures cause { ShelfCause (world self.old) (world self.new) result }
         ensures steady { ShelfSteady (world self.old) (world self.new) result };
 
@@ -85,9 +88,11 @@ pub trait Estate {
 
     /// Appends a commit.
     fn sink_commit(&mut self, id: &Bytes, job: &Bytes, text: &Bytes) -> Result<(), EstateError>
-        ensures leads { Leads (Appends (commit_of id.now job.now text.now)) (world self.old) (world self.new) }
+        ensures leads { Leads (Appends (commit_of id.now job.now text.now))
+            (world self.old) (world self.new) }
         ensures committed { OnOk result (IsTrue (world self.old).told →
-            (world self.new).holding.commits ≡ (world self.old).holding.commits ++ commit_of id.now job.now text.now ∷ []) }
+            HasAppended (commit_of id.now job.now text.now)
+            (world self.old).holding (world self.new).holding) }
         ensures memory { IsErrOf result NoMemory → Leads Stays (world self.old) (world self.new) }
         ensures cause { SinkCause (world self.old) (world self.new) result }
         ensures steady { SinkSteady (world self.old) (world self.new) result };

@@ -18,7 +18,8 @@ impl FixedClock {
     /// An empty list gives 0 at each reading.
     pub fn new(alloc: Global, moments: &Numbers) -> Result<FixedClock, NoMemory>
         ensures told { IfOk result (λ made. (clock_readings made).told ≡ true) }
-        ensures readings { IfOk result (λ made. (k : ℕ) → (clock_readings made).at k ≡ reading moments.now k) }
+        ensures readings { IfOk result (λ made. (k : ℕ) →
+            (clock_readings made).at k ≡ reading moments.now k) }
     {
         Ok(FixedClock {
             moments: Numbers::from_vec(moments.as_slice().to_vec(alloc)?),

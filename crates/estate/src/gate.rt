@@ -3,8 +3,8 @@ ghost use Rattle.estate.specs.declared.part_name.PartName.{PartName as Name};
 
 use crate::{GateFault, PartName};
 
-/// Lets attempts in before they run. Generic code makes no fault of its own, so an attempt fails only
-/// by its gate.
+/// Lets attempts in before they run. Generic code makes no fault of its own, so an attempt fails
+/// only by its gate.
 pub trait Gate: Sync {
     type Fault: GateFault;
 

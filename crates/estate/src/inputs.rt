@@ -6,8 +6,8 @@ ghost use Rattle.estate.specs.Changes.{InputCause, InputSteady};
 use crate::{InputError, Sizes};
 use row_core::Bytes;
 
-/// The job's text and the files of its tables. The files of a table are numbered from 0, in the byte
-/// order of their names.
+/// The job's text and the files of its tables. The files of a table are numbered from 0, in the
+/// byte order of their names.
 pub trait Inputs {
     /// What they hold, and how often they have failed.
     ghost contents: { Self → Contents };
@@ -28,7 +28,8 @@ pub trait Inputs {
         ensures steady { InputSteady (contents self.old).faults (contents self.new).faults result };
 
     fn read_file(&mut self, table: &Bytes, file: u32) -> Result<Bytes, InputError>
-        requires { IsTrue (contents self.old).told → file < length ((contents self.old).files table.now) }
+        requires { IsTrue (contents self.old).told →
+            file < length ((contents self.old).files table.now) }
         ensures keeps { KeepsContents (contents self.old) (contents self.new) }
         ensures bytes { IfOk result (λ bytes. IsTrue (contents self.old).told →
             bytes ≡ slice_index_or ((contents self.old).files table.now) file []) }

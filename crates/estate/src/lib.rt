@@ -1,5 +1,5 @@
-//! What is outside of a job: its log, shelf and sink, its inputs, printer, clock and gate, as traits,
-//! and as objects in memory for tests.
+//! What is outside of a job: its log, shelf and sink, its inputs, printer, clock and gate, as
+//! traits, and as objects in memory for tests.
 #![tactic(auto)]
 
 mod calls;

@@ -5,7 +5,7 @@ ghost use Rattle.estate.specs.Holding.{job_under};
 ghost use Rattle.estate.specs.Changes.{Rose};
 ghost use Rattle.estate.specs.Calls.{LosesDue};
 ghost use Rattle.estate.specs.Shelf.{held_in, LosesFrom};
-ghost use Rattle.estate.specs.Pasts.{HasEnded, IsCounted, commits_in, commits_at};
+ghost use Rattle.estate.specs.Pasts.{HasEnded, IsCounted, history, commits_in, commits_at, recalled_commit};
 
 use crate::calls::Calls;
 use crate::committed::Committed;
@@ -16,8 +16,9 @@ use crate::{Commit, Commits, Edges, Estate, EstateError, Loss, Losses, Names, Nu
 use row_core::{Bytes, NoMemory};
 use std::alloc::Global;
 
-/// An estate in memory. It keeps what happened to it, so that a crash may be tried at each moment. Each
-/// call takes the time of its own work: the log is written in its place, a part is found by its name.
+/// An estate in memory. It keeps what happened to it, so that a crash may be tried at each moment.
+/// Each call takes the time of its own work: the log is written in its place, a part is found by
+/// its name.
 #[derive(Debug, Drop)]
 pub struct MemEstate {
     alloc: Global,
@@ -32,7 +33,8 @@ pub struct MemEstate {
     shelf_faults: u64,
     sink_faults: u64,
     losses: u64,
-    ghost ended: { HasEnded (record { log = log.changes.items; shelf = shelf.parts.items; sink = sink.items }) (2 * calls.count + length drops.items) },
+    ghost ended: { HasEnded (history log.changes.items shelf.parts.items sink.items)
+        (2 * calls.count + length drops.items) },
     ghost dropped: { All (λ drop. drop ≤ 2 * calls.count) drops.items },
     ghost room: { vec_len drops + length (held_in shelf.parts.items) ≤ vec_capacity drops },
 }
@@ -46,8 +48,8 @@ impl MemEstate {
     ghost use Rattle.estate.specs.Pasts.{chosen};
     ghost use Rattle.estate.specs.Memory.{mem_world, clock_of, moments_of, time_of, past_of, HasEntered, IsCall, calls_of, failing_of, losing_of};
 
-    /// An empty estate. Its calls are counted from 0: one whose number is in `failing` fails, and at the
-    /// start of one that is in `losing` the part of that name is lost, if it is held.
+    /// An empty estate. Its calls are counted from 0: one whose number is in `failing` fails, and
+    /// at the start of one that is in `losing` the part of that name is lost, if it is held.
     pub fn new(alloc: Global, failing: &Numbers, losing: &Losses) -> Result<MemEstate, NoMemory>
         ensures told { IfOk result (λ made. (mem_world made).told ≡ true) }
         ensures holding { IfOk result (λ made. (mem_world made).holding ≡ empty_holding) }
@@ -72,7 +74,8 @@ impl MemEstate {
         })
     }
 
-    /// How many moments there are: the beginning, then for each call one within it and one at its exit.
+    /// How many moments there are: the beginning, then for each call one within it and one at its
+    /// exit.
     pub fn moments(&self) -> u64
         ensures { result ≡ moments_of self.now }
     {
@@ -87,13 +90,16 @@ impl MemEstate {
         Ok(commits)
     }
 
-    /// Drops the part of this name from what is held. Takes no memory, and no moment of its own: after it,
-    /// a crash at the present moment leaves the part no longer.
+    /// Drops the part of this name from what is held. Takes no memory, and no moment of its own:
+    /// after it, a crash at the present moment leaves the part no longer.
     pub fn lose(&mut self, name: PartName)
         ensures leads { Leads Stays (mem_world self.old) (mem_world self.new) }
         ensures gone { ¬ (Contains (mem_world self.new).holding.held name) }
-        ensures others { (other : Named) → other ≢ name → Contains (mem_world self.old).holding.held other → Contains (mem_world self.new).holding.held other }
-        ensures rose { Contains (mem_world self.old).holding.held name → Rose (mem_world self.old).counts.losses (mem_world self.new).counts.losses }
+        ensures others { (other : Named) → other ≢ name →
+            Contains (mem_world self.old).holding.held other →
+            Contains (mem_world self.new).holding.held other }
+        ensures rose { Contains (mem_world self.old).holding.held name →
+            Rose (mem_world self.old).counts.losses (mem_world self.new).counts.losses }
         ensures calls { calls_of self.new ≡ calls_of self.old }
         ensures failing { failing_of self.new ≡ failing_of self.old }
         ensures losing { losing_of self.new ≡ losing_of self.old }
@@ -105,15 +111,18 @@ impl MemEstate {
         }
     }
 
-    /// What a crash at a moment leaves: of the writes since the last sync none (choice 0), all (1), as many
-    /// bytes 255 (2), or all but the second half of the last (3). All that was held then is held, and what
-    /// was under way is not there, but for a write, which is one since the last sync. The estate that it
-    /// leaves begins with its first moment; no call of it is to fail or to lose.
+    /// What a crash at a moment leaves: of the writes since the last sync none (choice 0), all (1),
+    /// as many bytes 255 (2), or all but the second half of the last (3). All that was held then is
+    /// held, and what was under way is not there, but for a write, which is one since the last
+    /// sync. The estate that it leaves begins with its first moment; no call of it is to fail or to
+    /// lose.
     pub fn crash(&self, moment: u64, choice: u32) -> Result<MemEstate, NoMemory>
         requires moment { moment < moments_of self.now }
         requires choice { choice ≤ 3 }
-        ensures image { IfOk result (λ made. (mem_world self.now).images (time_of self.now moment) (mem_world made).holding) }
-        ensures chosen { IfOk result (λ made. (mem_world made).holding ≡ chosen choice (past_of self.now moment)) }
+        ensures image { IfOk result (λ left.
+            (mem_world self.now).images (time_of self.now moment) (mem_world left).holding) }
+        ensures chosen { IfOk result (λ left.
+            (mem_world left).holding ≡ chosen choice (past_of self.now moment)) }
         ensures first { IfOk result (λ made. (mem_world made).now ≡ 0) }
         ensures counts { IfOk result (λ made. (mem_world made).counts ≡ no_counts) }
         ensures calls { IfOk result (λ made. calls_of made ≡ 0) }
@@ -226,7 +235,8 @@ fn lose_due(losing: &[Loss], call: u64, since: u64, shelf: &mut MemShelf, losses
     ensures loses { LosesFrom since shelf.old.parts.items shelf.new.parts.items }
     ensures later { losses.old ≤ losses.new }
     ensures lost { IsCounted shelf.old.parts.items shelf.new.parts.items losses.old losses.new }
-    ensures due { LosesDue losing.now call (held_in shelf.old.parts.items) (held_in shelf.new.parts.items) }
+    ensures due { LosesDue losing.now call (held_in shelf.old.parts.items)
+        (held_in shelf.new.parts.items) }
 {
     for loss in losing {
         lose_if_due(loss, call, since, shelf, losses);
@@ -237,8 +247,10 @@ fn lose_if_due(loss: &Loss, call: u64, since: u64, shelf: &mut MemShelf, losses:
     ensures loses { LosesFrom since shelf.old.parts.items shelf.new.parts.items }
     ensures later { losses.old ≤ losses.new }
     ensures lost { IsCounted shelf.old.parts.items shelf.new.parts.items losses.old losses.new }
-    ensures due { LosesDue (loss.now ∷ []) call (held_in shelf.old.parts.items) (held_in shelf.new.parts.items) }
-    ensures fewer { (name : Name) → Contains (held_in shelf.new.parts.items) name → Contains (held_in shelf.old.parts.items) name }
+    ensures due { LosesDue (loss.now ∷ []) call (held_in shelf.old.parts.items)
+        (held_in shelf.new.parts.items) }
+    ensures fewer { (name : Name) → Contains (held_in shelf.new.parts.items) name →
+        Contains (held_in shelf.old.parts.items) name }
 {
     if loss.call != call {
         return;
@@ -277,7 +289,8 @@ fn recall(
     entry: &Committed,
     moment: u64,
 ) -> Result<(), NoMemory>
-    ensures { OnOk result (made.new.items ≡ made.old.items ++ (if nat_le entry.now.since moment then (record { since = 0; commit = entry.now.commit }) ∷ [] else [])) }
+    ensures { OnOk result (made.new.items ≡ made.old.items
+        ++ (if nat_le entry.now.since moment then recalled_commit entry.now ∷ [] else [])) }
 {
     if entry.since > moment {
         return Ok(());
@@ -303,16 +316,16 @@ impl Estate for MemEstate {
     ghost use Rattle.std.specs.Prelude.{IsTrue, IsErrOf, take, drop};
     ghost use Rattle.estate.specs.declared.estate_error.EstateError.TheVariants.{NoMemory};
     ghost use Rattle.estate.specs.Holding.{part_of, commit_of, IsFresh};
-    ghost use Rattle.estate.specs.World.{IsDurable};
-    ghost use Rattle.estate.specs.Parts.{AnswersCell, AnswersNames};
-    ghost use Rattle.estate.specs.Changes.{Stays, Leads, Writes, Puts, Appends, Holds, HasPut, HasNotPut, LogCause, ShelfCause, SinkCause, LogSteady, ShelfSteady, SinkSteady};
+    ghost use Rattle.estate.specs.World.{IsDurable, AnswersCell};
+    ghost use Rattle.estate.specs.Parts.{AnswersNames};
+    ghost use Rattle.estate.specs.Changes.{Stays, Leads, Writes, Puts, Appends, Holds, HasPut, HasNotPut, HasAppended, LogCause, ShelfCause, SinkCause, LogSteady, ShelfSteady, SinkSteady};
     ghost use Rattle.estate.specs.Memory.{mem_world, history_of, clock_of, counts_of, moments_of, past_of, present_of, IsCall};
     ghost use Rattle.estate.specs.PastLaws.{past_lawful};
 
     ghost world = { mem_world };
 
-    // Each call says more than the trait asks: it fails as listed and loses what is due, and four say what
-    // a crash within them finds.
+    // Each call says more than the trait asks: it fails as listed and loses what is due, and four
+    // say what a crash within them finds.
 
     fn log_len(&mut self) -> Result<u64, EstateError>
         ensures leads { Leads Stays (mem_world self.old) (mem_world self.new) }
@@ -327,7 +340,8 @@ impl Estate for MemEstate {
     }
 
     fn log_read(&mut self, at: u64, len: u64) -> Result<Bytes, EstateError>
-        requires { IsTrue (mem_world self.old).told → at + len ≤ length (mem_world self.old).holding.log }
+        requires { IsTrue (mem_world self.old).told →
+            at + len ≤ length (mem_world self.old).holding.log }
         ensures leads { Leads Stays (mem_world self.old) (mem_world self.new) }
         ensures bytes { IfOk result (λ bytes. IsTrue (mem_world self.old).told →
             bytes ≡ take len (drop at (mem_world self.old).holding.log)) }
@@ -344,12 +358,14 @@ impl Estate for MemEstate {
         ensures leads { Leads (Writes at bytes.now) (mem_world self.old) (mem_world self.new) }
         ensures written { OnOk result (IsTrue (mem_world self.old).told →
             Holds (mem_world self.old).holding.log at bytes.now (mem_world self.new).holding.log) }
-        ensures memory { IsErrOf result NoMemory → Leads Stays (mem_world self.old) (mem_world self.new) }
+        ensures memory { IsErrOf result NoMemory →
+            Leads Stays (mem_world self.old) (mem_world self.new) }
         ensures cause { LogCause (mem_world self.old) (mem_world self.new) result }
         ensures steady { LogSteady (mem_world self.old) (mem_world self.new) result }
         ensures call { IsCall (IsErrOf result EstateError.Failed) self.old self.new }
         // a write under way is one since the last sync
-        ensures under_way { OnOk result ((past_of self.new (moments_of self.old)).disk ≡ (present_of self.new).disk) }
+        ensures under_way { OnOk result ((past_of self.new (moments_of self.old)).disk
+            ≡ (present_of self.new).disk) }
     {
         self.enter_log()?;
         let within = self.clock() - 1;
@@ -365,7 +381,8 @@ impl Estate for MemEstate {
         ensures steady { LogSteady (mem_world self.old) (mem_world self.new) result }
         ensures call { IsCall (IsErrOf result EstateError.Failed) self.old self.new }
         // a sync under way has not happened
-        ensures under_way { OnOk result ((past_of self.new (moments_of self.old)).disk ≡ (present_of self.old).disk) }
+        ensures under_way { OnOk result ((past_of self.new (moments_of self.old)).disk
+            ≡ (present_of self.old).disk) }
     {
         self.enter_log()?;
         let exit = self.clock();
@@ -374,19 +391,26 @@ impl Estate for MemEstate {
     }
 
     fn shelf_put(&mut self, name: PartName, edges: &Edges) -> Result<(), EstateError>
-        requires { IsTrue (mem_world self.old).told → IsFresh name (mem_world self.old).holding.ever }
-        ensures leads { Leads (Puts (part_of name edges.now)) (mem_world self.old) (mem_world self.new) }
+        requires { IsTrue (mem_world self.old).told →
+            IsFresh name (mem_world self.old).holding.ever }
+        ensures leads { Leads (Puts (part_of name edges.now))
+            (mem_world self.old) (mem_world self.new) }
         ensures put { OnOk result (IsTrue (mem_world self.old).told →
-            HasPut (part_of name edges.now) (mem_world self.old).holding (mem_world self.new).holding) }
+            HasPut (part_of name edges.now)
+            (mem_world self.old).holding (mem_world self.new).holding) }
         ensures failed { IsErrOf result EstateError.Failed → IsTrue (mem_world self.old).told →
-            HasPut (part_of name edges.now) (mem_world self.old).holding (mem_world self.new).holding
-            ⊎ HasNotPut (part_of name edges.now) (mem_world self.old).holding (mem_world self.new).holding }
-        ensures memory { IsErrOf result NoMemory → Leads Stays (mem_world self.old) (mem_world self.new) }
+            HasPut (part_of name edges.now)
+            (mem_world self.old).holding (mem_world self.new).holding
+            ⊎ HasNotPut (part_of name edges.now)
+            (mem_world self.old).holding (mem_world self.new).holding }
+        ensures memory { IsErrOf result NoMemory →
+            Leads Stays (mem_world self.old) (mem_world self.new) }
         ensures cause { ShelfCause (mem_world self.old) (mem_world self.new) result }
         ensures steady { ShelfSteady (mem_world self.old) (mem_world self.new) result }
         ensures call { IsCall (IsErrOf result EstateError.Failed) self.old self.new }
         // a part under way is not there
-        ensures under_way { OnOk result ((past_of self.new (moments_of self.old)).ever ≡ (present_of self.old).ever) }
+        ensures under_way { OnOk result ((past_of self.new (moments_of self.old)).ever
+            ≡ (present_of self.old).ever) }
     {
         self.enter_shelf()?;
         let exit = self.clock();
@@ -409,7 +433,7 @@ impl Estate for MemEstate {
     ) -> Result<Option<Bytes>, EstateError>
         ensures leads { Leads Stays (mem_world self.old) (mem_world self.new) }
         ensures cell { IfOk result (λ found. IsTrue (mem_world self.old).told →
-            AnswersCell name edge cell (mem_world self.old).holding.ever (mem_world self.new).holding.held found) }
+            AnswersCell name edge cell (mem_world self.old) (mem_world self.new) found) }
         ensures cause { ShelfCause (mem_world self.old) (mem_world self.new) result }
         ensures steady { ShelfSteady (mem_world self.old) (mem_world self.new) result }
         ensures call { IsCall (IsErrOf result EstateError.Failed) self.old self.new }
@@ -431,15 +455,19 @@ impl Estate for MemEstate {
     }
 
     fn sink_commit(&mut self, id: &Bytes, job: &Bytes, text: &Bytes) -> Result<(), EstateError>
-        ensures leads { Leads (Appends (commit_of id.now job.now text.now)) (mem_world self.old) (mem_world self.new) }
+        ensures leads { Leads (Appends (commit_of id.now job.now text.now))
+            (mem_world self.old) (mem_world self.new) }
         ensures committed { OnOk result (IsTrue (mem_world self.old).told →
-            (mem_world self.new).holding.commits ≡ (mem_world self.old).holding.commits ++ commit_of id.now job.now text.now ∷ []) }
-        ensures memory { IsErrOf result NoMemory → Leads Stays (mem_world self.old) (mem_world self.new) }
+            HasAppended (commit_of id.now job.now text.now)
+            (mem_world self.old).holding (mem_world self.new).holding) }
+        ensures memory { IsErrOf result NoMemory →
+            Leads Stays (mem_world self.old) (mem_world self.new) }
         ensures cause { SinkCause (mem_world self.old) (mem_world self.new) result }
         ensures steady { SinkSteady (mem_world self.old) (mem_world self.new) result }
         ensures call { IsCall (IsErrOf result EstateError.Failed) self.old self.new }
         // a commit under way is not there
-        ensures under_way { OnOk result ((past_of self.new (moments_of self.old)).commits ≡ (present_of self.old).commits) }
+        ensures under_way { OnOk result ((past_of self.new (moments_of self.old)).commits
+            ≡ (present_of self.old).commits) }
     {
         self.enter_sink()?;
         let commit = Commit::from_slices(
@@ -468,5 +496,6 @@ impl Estate for MemEstate {
         Ok(find_job(self.alloc, &self.sink, id)?)
     }
 
-    ghost lawful = { λ estate. past_lawful (history_of estate) (clock_of estate) (counts_of estate) estate.shelf.distinct };
+    ghost lawful = { λ estate. past_lawful (history_of estate) (clock_of estate)
+        (counts_of estate) estate.shelf.distinct };
 }

@@ -32,7 +32,8 @@ impl MemInputs {
     ) -> Result<MemInputs, NoMemory>
         ensures told { IfOk result (λ made. (mem_contents made).told ≡ true) }
         ensures job { IfOk result (λ made. (mem_contents made).job ≡ job.now) }
-        ensures files { IfOk result (λ made. (table : List ℕ) → (mem_contents made).files table ≡ files_in tables.now table) }
+        ensures files { IfOk result (λ made. (table : List ℕ) →
+            (mem_contents made).files table ≡ files_in tables.now table) }
         ensures faults { IfOk result (λ made. (mem_contents made).faults ≡ 0) }
         ensures calls { IfOk result (λ made. made.calls.count ≡ 0) }
         ensures failing { IfOk result (λ made. made.calls.failing.items ≡ failing.now) }
@@ -63,7 +64,8 @@ impl MemInputs {
 
 // The files of the first entry of a table.
 fn files_of<'a>(tables: &'a [Table], name: &Bytes) -> Option<&'a Files>
-    ensures { MatchOption result (files_in tables.now name.now ≡ []) (λ files. files.now ≡ files_in tables.now name.now) }
+    ensures { MatchOption result (files_in tables.now name.now ≡ []) (λ files. files.now
+        ≡ files_in tables.now name.now) }
 {
     for table in tables {
         if table.table.equals(name) {
@@ -88,9 +90,12 @@ impl Inputs for MemInputs {
         ensures keeps { KeepsContents (mem_contents self.old) (mem_contents self.new) }
         ensures text { IfOk result (λ text. IsTrue (mem_contents self.old).told →
             text ≡ (mem_contents self.old).job) }
-        ensures cause { InputCause (mem_contents self.old).faults (mem_contents self.new).faults result }
-        ensures steady { InputSteady (mem_contents self.old).faults (mem_contents self.new).faults result }
-        ensures call { FailsAsListed (IsErrOf result InputError.Failed) self.old.calls self.new.calls }
+        ensures cause { InputCause (mem_contents self.old).faults
+            (mem_contents self.new).faults result }
+        ensures steady { InputSteady (mem_contents self.old).faults
+            (mem_contents self.new).faults result }
+        ensures call { FailsAsListed
+            (IsErrOf result InputError.Failed) self.old.calls self.new.calls }
     {
         Self::begin(&mut self.calls, &mut self.faults)?;
         Ok(Bytes::from_slice(self.alloc, self.job.as_slice())?)
@@ -100,9 +105,12 @@ impl Inputs for MemInputs {
         ensures keeps { KeepsContents (mem_contents self.old) (mem_contents self.new) }
         ensures sizes { IfOk result (λ sizes. IsTrue (mem_contents self.old).told →
             sizes ≡ map length ((mem_contents self.old).files table.now)) }
-        ensures cause { InputCause (mem_contents self.old).faults (mem_contents self.new).faults result }
-        ensures steady { InputSteady (mem_contents self.old).faults (mem_contents self.new).faults result }
-        ensures call { FailsAsListed (IsErrOf result InputError.Failed) self.old.calls self.new.calls }
+        ensures cause { InputCause (mem_contents self.old).faults
+            (mem_contents self.new).faults result }
+        ensures steady { InputSteady (mem_contents self.old).faults
+            (mem_contents self.new).faults result }
+        ensures call { FailsAsListed
+            (IsErrOf result InputError.Failed) self.old.calls self.new.calls }
     {
         Self::begin(&mut self.calls, &mut self.faults)?;
         match files_of(self.tables.as_slice(), table) {
@@ -112,13 +120,17 @@ impl Inputs for MemInputs {
     }
 
     fn read_file(&mut self, table: &Bytes, file: u32) -> Result<Bytes, InputError>
-        requires { IsTrue (mem_contents self.old).told → file < length ((mem_contents self.old).files table.now) }
+        requires { IsTrue (mem_contents self.old).told →
+            file < length ((mem_contents self.old).files table.now) }
         ensures keeps { KeepsContents (mem_contents self.old) (mem_contents self.new) }
         ensures bytes { IfOk result (λ bytes. IsTrue (mem_contents self.old).told →
             bytes ≡ slice_index_or ((mem_contents self.old).files table.now) file []) }
-        ensures cause { InputCause (mem_contents self.old).faults (mem_contents self.new).faults result }
-        ensures steady { InputSteady (mem_contents self.old).faults (mem_contents self.new).faults result }
-        ensures call { FailsAsListed (IsErrOf result InputError.Failed) self.old.calls self.new.calls }
+        ensures cause { InputCause (mem_contents self.old).faults
+            (mem_contents self.new).faults result }
+        ensures steady { InputSteady (mem_contents self.old).faults
+            (mem_contents self.new).faults result }
+        ensures call { FailsAsListed
+            (IsErrOf result InputError.Failed) self.old.calls self.new.calls }
     {
         Self::begin(&mut self.calls, &mut self.faults)?;
         match files_of(self.tables.as_slice(), table) {

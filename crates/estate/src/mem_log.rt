@@ -1,7 +1,5 @@
 ghost use Rattle.std.specs.Prelude.{◌≡◌, ◌+◌, ◌<◌, ◌≤◌, ◌⊎◌, [], ◌∷◌, ◌++◌, List, take, drop, length, map, true, false, nat_le, if◌then◌else◌, All, vec_len, vec_capacity, IfOk, OnOk, OnErr};
-ghost use Rattle.estate.specs.declared.write.Write.{Write as WriteOf};
-ghost use Rattle.estate.specs.declared.log_event.LogEvent.TheVariants.{Wrote, Synced};
-ghost use Rattle.estate.specs.Disk.{overwritten, applied, whole_log, disk_of, disk_at, after_event, after_changes, kept, filled, halved, last_halved, chosen_log, mem_disk};
+ghost use Rattle.estate.specs.Disk.{overwritten, applied, disk_of, disk_at, log_of, wrote, synced, after_event, after_changes, kept, filled, last_halved, chosen_log, mem_disk};
 
 use crate::log_change::LogChange;
 use crate::log_event::LogEvent;
@@ -15,9 +13,10 @@ use std::alloc::Global;
 pub struct MemLog {
     bytes: Vec<u8>,
     pub changes: Vec<LogChange>,
-    // Whether something was written since the last sync, which then has room, so that it takes no memory.
+    // Whether something was written since the last sync, which then has room, so that it takes no
+    // memory.
     unsynced: bool,
-    ghost is: { bytes.items ≡ whole_log (disk_of changes.items) },
+    ghost is: { bytes.items ≡ log_of changes.items },
     ghost settled: { unsynced ≡ false → (disk_of changes.items).writes ≡ [] },
     ghost room: { unsynced ≡ true → vec_len changes < vec_capacity changes },
 }
@@ -34,14 +33,15 @@ impl MemLog {
     }
 
     pub fn len(&self) -> u64
-        ensures { result ≡ length (whole_log (disk_of self.now.changes.items)) }
+        ensures { result ≡ length (log_of self.now.changes.items) }
     {
         self.bytes.len() as u64
     }
 
     pub fn read(&self, alloc: Global, at: u64, len: u64) -> Result<Bytes, NoMemory>
-        requires { at + len ≤ length (whole_log (disk_of self.now.changes.items)) }
-        ensures { IfOk result (λ bytes. bytes ≡ take len (drop at (whole_log (disk_of self.now.changes.items)))) }
+        requires { at + len ≤ length (log_of self.now.changes.items) }
+        ensures { IfOk result (λ bytes. bytes
+            ≡ take len (drop at (log_of self.now.changes.items))) }
     {
         let tail = &self.bytes.as_slice()[at as usize..];
         Bytes::from_slice(alloc, &tail[..len as usize])
@@ -55,7 +55,8 @@ impl MemLog {
         bytes: &Bytes,
         since: u64,
     ) -> Result<(), NoMemory>
-        ensures ok { OnOk result (self.new.changes.items ≡ self.old.changes.items ++ (record { since = since; event = Wrote (record { at = at; bytes = bytes.now }) }) ∷ []) }
+        ensures ok { OnOk result
+            (self.new.changes.items ≡ self.old.changes.items ++ wrote since at bytes.now ∷ []) }
         ensures err { OnErr result (self.new.changes.items ≡ self.old.changes.items) }
     {
         self.changes.reserve(2)?;
@@ -75,9 +76,10 @@ impl MemLog {
     /// The log that a crash at a moment leaves by its choice, all of it on the disk.
     pub fn crash(&self, alloc: Global, moment: u64, choice: u32) -> Result<MemLog, NoMemory>
         requires { choice ≤ 3 }
-        ensures whole { IfOk result (λ made. whole_log (disk_of made.changes.items) ≡ chosen_log choice (disk_at moment self.now.changes.items)) }
-        ensures synced { IfOk result (λ made. (disk_of made.changes.items).writes ≡ []) }
-        ensures first { IfOk result (λ made. All (λ change. change.since ≡ 0) made.changes.items) }
+        ensures whole { IfOk result (λ log.
+            log_of log.changes.items ≡ chosen_log choice (disk_at moment self.now.changes.items)) }
+        ensures synced { IfOk result (λ log. (disk_of log.changes.items).writes ≡ []) }
+        ensures first { IfOk result (λ log. All (λ change. change.since ≡ 0) log.changes.items) }
     {
         let mut disk = replayed(alloc, &self.changes, moment)?;
         let writes = kept_writes(alloc, &disk.writes, choice)?;
@@ -90,7 +92,8 @@ impl MemLog {
 
     /// Takes no memory.
     pub fn sync(&mut self, since: u64)
-        ensures changes { (self.new.changes.items ≡ self.old.changes.items) ⊎ (self.new.changes.items ≡ self.old.changes.items ++ (record { since = since; event = Synced }) ∷ []) }
+        ensures changes { (self.new.changes.items ≡ self.old.changes.items)
+            ⊎ (self.new.changes.items ≡ self.old.changes.items ++ synced since ∷ []) }
         ensures synced { (disk_of self.new.changes.items).writes ≡ [] }
     {
         if self.unsynced {
@@ -120,7 +123,8 @@ fn take_change(
     change: &LogChange,
     moment: u64,
 ) -> Result<(), NoMemory>
-    ensures { OnOk result (mem_disk disk.new ≡ after_changes (mem_disk disk.old) (if nat_le change.now.since moment then change.now ∷ [] else [])) }
+    ensures { OnOk result (mem_disk disk.new ≡ after_changes (mem_disk disk.old)
+        (if nat_le change.now.since moment then change.now ∷ [] else [])) }
 {
     if change.since <= moment {
         return take_event(alloc, disk, &change.event);

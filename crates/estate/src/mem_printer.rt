@@ -16,8 +16,8 @@ impl MemPrinter {
     ghost use Rattle.std.specs.Prelude.{◌≡◌, [], true, IfOk};
     ghost use Rattle.estate.specs.Memory.{mem_printed};
 
-    /// A call whose number is in `failing` fails, and prints nothing. So does one for which no memory
-    /// is left.
+    /// A call whose number is in `failing` fails, and prints nothing. So does one for which no
+    /// memory is left.
     pub fn new(alloc: Global, failing: &Numbers) -> Result<MemPrinter, NoMemory>
         ensures told { IfOk result (λ made. (mem_printed made).told ≡ true) }
         ensures bytes { IfOk result (λ made. (mem_printed made).bytes ≡ []) }
@@ -50,18 +50,22 @@ impl Printer for MemPrinter {
 
     ghost printed = { mem_printed };
 
-    // It says more than the trait asks: a call that is listed fails, and one that fails prints nothing.
+    // It says more than the trait asks: a call that is listed fails, and one that fails prints
+    // nothing.
     fn print(&mut self, bytes: &Bytes) -> Result<(), PrintFailed>
         ensures keeps { KeepsPrinted (mem_printed self.old) (mem_printed self.new) }
         ensures all { OnOk result (IsTrue (mem_printed self.old).told →
             (mem_printed self.new).bytes ≡ (mem_printed self.old).bytes ++ bytes.now) }
         ensures part { OnErr result (IsTrue (mem_printed self.old).told →
             AddsPart bytes.now (mem_printed self.old).bytes (mem_printed self.new).bytes) }
-        ensures cause { OnErr result (Rose (mem_printed self.old).faults (mem_printed self.new).faults) }
-        ensures steady { OnOk result ((mem_printed self.new).faults ≡ (mem_printed self.old).faults) }
+        ensures cause { OnErr result
+            (Rose (mem_printed self.old).faults (mem_printed self.new).faults) }
+        ensures steady { OnOk result ((mem_printed self.new).faults
+            ≡ (mem_printed self.old).faults) }
         ensures counted { CountsOne self.old.calls self.new.calls }
         ensures fails { OnOk result (¬ (FailsNext self.old.calls)) }
-        ensures nothing { OnErr result ((mem_printed self.new).bytes ≡ (mem_printed self.old).bytes) }
+        ensures nothing { OnErr result ((mem_printed self.new).bytes
+            ≡ (mem_printed self.old).bytes) }
     {
         if self.calls.begin() || self.bytes.extend(bytes.as_slice()).is_err() {
             self.faults = self.faults.saturating_add(1);

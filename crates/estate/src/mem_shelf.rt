@@ -2,8 +2,8 @@ ghost use Rattle.std.specs.Prelude.{◌≡◌, ◌≢◌, ◌↔◌, ◌<◌, �
 ghost use Rattle.std.specs.List.{filter};
 ghost use Rattle.estate.specs.declared.part_name.PartName.{PartName as Name};
 ghost use Rattle.estate.specs.Parts.{cell_of, is_same_name, IsAscending};
-ghost use Rattle.estate.specs.Places.{place_of};
-ghost use Rattle.estate.specs.Shelf.{IsPlaced, Loses, held_in, is_lost, stored, recalled};
+ghost use Rattle.estate.specs.Places.{SamePlaces};
+ghost use Rattle.estate.specs.Shelf.{IsPlaced, Loses, NotesPart, held_in, stored, recalled, recalled_parts};
 
 use crate::places::Places;
 use crate::shelved::Shelved;
@@ -11,8 +11,8 @@ use crate::{Edge, Names, PartName};
 use row_core::{Bytes, NoMemory};
 use std::alloc::Global;
 
-/// A shelf in memory. It keeps when each part was put and lost, so that a crash may be tried at each
-/// moment.
+/// A shelf in memory. It keeps when each part was put and lost, so that a crash may be tried at
+/// each moment.
 #[derive(Debug, Drop)]
 pub struct MemShelf {
     pub parts: Vec<Shelved>,
@@ -46,7 +46,9 @@ impl MemShelf {
         ensures lost { result ≡ true → Loses name since self.old.parts.items self.new.parts.items }
         ensures same { result ≡ false → self.new.parts.items ≡ self.old.parts.items }
         ensures gone { ¬ (Contains (held_in self.new.parts.items) name) }
-        ensures others { (other : Name) → other ≢ name → Contains (held_in self.old.parts.items) other → Contains (held_in self.new.parts.items) other }
+        ensures others { (other : Name) → other ≢ name →
+            Contains (held_in self.old.parts.items) other →
+            Contains (held_in self.new.parts.items) other }
     {
         let Some(place) = self.places.get(name) else {
             return false;
@@ -67,7 +69,8 @@ impl MemShelf {
     ) -> Result<Option<Bytes>, NoMemory>
         ensures { IfOk result (λ found. MatchOption found
             (¬ (Contains (held_in self.now.parts.items) name))
-            (λ bytes. Contains (held_in self.now.parts.items) name × (bytes ≡ cell_of name edge cell (map stored self.now.parts.items)))) }
+            (λ bytes. Contains (held_in self.now.parts.items) name
+            × (bytes ≡ cell_of name edge cell (map stored self.now.parts.items)))) }
     {
         let Some(place) = self.places.get(name) else {
             return Ok(None);
@@ -79,7 +82,8 @@ impl MemShelf {
     /// The names of the parts that are held, in ascending order.
     pub fn names(&self, alloc: Global) -> Result<Names, NoMemory>
         ensures ascending { IfOk result IsAscending }
-        ensures names { IfOk result (λ names. (name : Name) → Contains names name ↔ Contains (held_in self.now.parts.items) name) }
+        ensures names { IfOk result (λ names. (name : Name) →
+            Contains names name ↔ Contains (held_in self.now.parts.items) name) }
     {
         let names = self.places.names(alloc)?;
         Ok(names)
@@ -87,7 +91,8 @@ impl MemShelf {
 
     /// The shelf as it was at a moment.
     pub fn crash(&self, alloc: Global, moment: u64) -> Result<MemShelf, NoMemory>
-        ensures { IfOk result (λ made. made.parts.items ≡ map (recalled moment) (filter (λ part. nat_le part.since moment) self.now.parts.items)) }
+        ensures { IfOk result (λ shelf.
+            shelf.parts.items ≡ recalled_parts moment self.now.parts.items) }
     {
         let mut made = MemShelf::new(alloc);
         for part in &self.parts {
@@ -99,7 +104,8 @@ impl MemShelf {
     // Adds a part as it was at a moment, if it stood then.
     fn recall(&mut self, alloc: Global, part: &Shelved, moment: u64) -> Result<(), NoMemory>
         requires { All (λ other. other.name ≢ part.now.name) self.old.parts.items }
-        ensures { OnOk result (self.new.parts.items ≡ self.old.parts.items ++ (if nat_le part.now.since moment then recalled moment part.now ∷ [] else [])) }
+        ensures { OnOk result (self.new.parts.items ≡ self.old.parts.items
+            ++ (if nat_le part.now.since moment then recalled moment part.now ∷ [] else [])) }
     {
         if part.since > moment {
             return Ok(());
@@ -110,7 +116,8 @@ impl MemShelf {
 
 // A cell, or no bytes where it is lacking.
 fn copied_cell(alloc: Global, edges: &[Edge], edge: usize, cell: usize) -> Result<Bytes, NoMemory>
-    ensures { IfOk result (λ bytes. bytes ≡ slice_index_or (slice_index_or edges.now edge []) cell []) }
+    ensures { IfOk result (λ bytes. bytes
+        ≡ slice_index_or (slice_index_or edges.now edge []) cell []) }
 {
     let Some(edge) = edges.get(edge) else {
         return Ok(Bytes::new(alloc));
@@ -139,8 +146,8 @@ fn add_placed(parts: &mut Vec<Shelved>, places: &mut Places, part: Shelved) -> R
 
 // Notes the place of a part that is held.
 fn note(places: &mut Places, part: &Shelved, place: usize) -> Result<(), NoMemory>
-    ensures ok { OnOk result ((other : Name) → place_of places.new other ≡ (if not (is_lost part.now.lost) && is_same_name part.now.name other then Some place else place_of places.old other)) }
-    ensures err { OnErr result ((other : Name) → place_of places.new other ≡ place_of places.old other) }
+    ensures ok { OnOk result (NotesPart part.now place places.old places.new) }
+    ensures err { OnErr result (SamePlaces places.old places.new) }
 {
     match part.lost {
         None => places.insert(part.name, place),

@@ -1,5 +1,5 @@
-/// Names what one attempt wrote: the attempt of a vertex's subtask in an epoch. Ordered by these, in
-/// this order.
+/// Names what one attempt wrote: the attempt of a vertex's subtask in an epoch. Ordered by these,
+/// in this order.
 #[derive(Clone, Copy, Debug, PartialEq, Eq, PartialOrd, Ord)]
 pub struct PartName {
     pub vertex: u32,

@@ -1,8 +1,8 @@
-ghost use Rattle.std.specs.Prelude.{◌≡◌, ◌↔◌, None, Some, if◌then◌else◌, IfOk, OnOk, OnErr, IsSome, Contains};
+ghost use Rattle.std.specs.Prelude.{◌≡◌, ◌↔◌, None, Some, IfOk, OnOk, OnErr, IsSome, Contains};
 ghost use Rattle.estate.specs.declared.part_name.PartName.{PartName as Name};
-ghost use Rattle.estate.specs.Parts.{is_same_name, IsAscending};
+ghost use Rattle.estate.specs.Parts.{IsAscending};
 ghost use Rattle.std.specs.BTreeMap.{keys, IsOrdered};
-ghost use Rattle.estate.specs.Places.{place_of, name_cmp};
+ghost use Rattle.estate.specs.Places.{place_of, name_cmp, SetsPlace, SamePlaces};
 
 use crate::{Names, PartName};
 use row_core::NoMemory;
@@ -31,15 +31,15 @@ impl Places {
     }
 
     pub fn insert(&mut self, name: PartName, place: usize) -> Result<(), NoMemory>
-        ensures ok { OnOk result ((other : Name) → place_of self.new other ≡ (if is_same_name name other then Some place else place_of self.old other)) }
-        ensures err { OnErr result ((other : Name) → place_of self.new other ≡ place_of self.old other) }
+        ensures ok { OnOk result (SetsPlace name (Some place) self.old self.new) }
+        ensures err { OnErr result (SamePlaces self.old self.new) }
     {
         self.map.insert(name, place)?;
         Ok(())
     }
 
     pub fn remove(&mut self, name: PartName)
-        ensures { (other : Name) → place_of self.new other ≡ (if is_same_name name other then None else place_of self.old other) }
+        ensures { SetsPlace name None self.old self.new }
     {
         self.map.remove(&name);
     }
@@ -47,7 +47,8 @@ impl Places {
     /// The names, in ascending order.
     pub fn names(&self, alloc: Global) -> Result<Names, NoMemory>
         ensures ascending { IfOk result IsAscending }
-        ensures names { IfOk result (λ names. (name : Name) → Contains names name ↔ IsSome (place_of self.now name)) }
+        ensures names { IfOk result (λ names. (name : Name) →
+            Contains names name ↔ IsSome (place_of self.now name)) }
     {
         Ok(Names::from_vec(copied_keys(alloc, &self.map)?))
     }

@@ -22,7 +22,10 @@ impl Write {
 
     /// As many bytes 255.
     pub fn filled(&self, alloc: Global) -> Result<Write, NoMemory>
-        ensures { IfOk result (λ made. made ≡ record { at = self.now.at; bytes = map (λ _. 255) self.now.bytes }) }
+        ensures { IfOk result (λ made. made ≡ record {
+          at = self.now.at;
+          bytes = map (λ _. 255) self.now.bytes;
+        }) }
     {
         let mut bytes = Bytes::new(alloc);
         for _ in self.bytes.as_slice() {
@@ -33,7 +36,10 @@ impl Write {
 
     /// The first half of the bytes.
     pub fn halved(&self, alloc: Global) -> Result<Write, NoMemory>
-        ensures { IfOk result (λ made. made ≡ record { at = self.now.at; bytes = take (length self.now.bytes / 2) self.now.bytes }) }
+        ensures { IfOk result (λ made. made ≡ record {
+          at = self.now.at;
+          bytes = take (length self.now.bytes / 2) self.now.bytes;
+        }) }
     {
         let bytes = self.bytes.as_slice();
         Ok(Write {

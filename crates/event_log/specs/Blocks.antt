@@ -27,14 +27,16 @@ length_at bytes = from_be_bytes w64 (take 8 bytes)
 abbrev pub body_at : List ℕ → List ℕ
 body_at bytes = take (length_at bytes) (drop 8 bytes)
 
--- What is read behind the bytes that are skipped. A gate byte 0 ends the blocks, and any other is followed by a length, a
--- body and the next gate. Where these do not all lie within the bytes, the block is broken.
+-- What is read behind the bytes that are skipped. A gate byte 0 ends the blocks, and any other is
+-- followed by a length, a body and the next gate. Where these do not all lie within the bytes, the
+-- block is broken.
 unfoldable pub read_after : ℕ → List ℕ → Reading
 read_after skip [] = at_end false
 read_after (suc skip) (byte ∷ bytes) = read_after skip bytes
 read_after zero (gate ∷ bytes) =
     if gate == 0 then at_end true else
-    (if nat_lt (8 + length_at bytes) (length bytes) then after_blocks (body_at bytes ∷ []) (read_after (8 + length_at bytes) bytes) else at_end false)
+    (if nat_lt (8 + length_at bytes) (length bytes) then after_blocks (body_at bytes ∷ [])
+    (read_after (8 + length_at bytes) bytes) else at_end false)
 
 -- what a log says; one of at most one byte is fresh, and has no block
 unfoldable pub reading_of : List ℕ → Reading
@@ -64,7 +66,8 @@ SameBlocks old new = blocks_of new ≡ blocks_of old
 
 -- the new log has the blocks of the old, alone or with one of this body
 abbrev pub MayGainBlock : List ℕ → List ℕ → List ℕ → Type 0
-MayGainBlock body old new = (blocks_of new ≡ blocks_of old) ⊎ (blocks_of new ≡ with_block body (blocks_of old))
+MayGainBlock body old new =
+    (blocks_of new ≡ blocks_of old) ⊎ (blocks_of new ≡ with_block body (blocks_of old))
 
 -- the log has the same blocks, and nothing else changes but that names may be gone
 abbrev pub KeepsBlocks : Holding → Holding → Type 0

@@ -7,7 +7,8 @@ use Rattle.event_log.specs.Blocks.{after_blocks, blocks_size, read_after}
 
 -- this front of a log is whole blocks of these bodies, whatever gate follows
 pub record IsFront (front : List ℕ) (bodies : List (List ℕ)) : Type 0 where
-  pub reads : (gate : ℕ) (rest : List ℕ) → read_after zero (front ++ gate ∷ rest) ≡ after_blocks bodies (read_after zero (gate ∷ rest))
+  pub reads : (gate : ℕ) (rest : List ℕ) →
+      read_after zero (front ++ gate ∷ rest) ≡ after_blocks bodies (read_after zero (gate ∷ rest))
 
 -- a closed gate stands behind the front
 abbrev pub IsClosedBehind : List ℕ → List ℕ → Type 0

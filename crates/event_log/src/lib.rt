@@ -1,5 +1,5 @@
-//! The log of a job's events: blocks behind gates, each of which counts whole or not at all, whatever a
-//! crash leaves. docs/FORMATS.md states the format.
+//! The log of a job's events: blocks behind gates, each of which counts whole or not at all,
+//! whatever a crash leaves. docs/FORMATS.md states the format.
 #![tactic(auto)]
 
 mod blocks;

@@ -23,9 +23,10 @@ impl Log {
     ghost use Rattle.event_log.specs.Started.{IsStarted};
     ghost use Rattle.event_log.specs.Answers.{AnswersFaults, AnswersLength};
 
-    /// Adds a block behind the closed gate: it writes the block with the next closed gate, syncs, opens the
-    /// gate before it, and syncs. A crash leaves the block whole or not at all, and after `Ok` it leaves it.
-    /// The room of the block is taken before the first write. After `Fault` the log is started anew.
+    /// Adds a block behind the closed gate: it writes the block with the next closed gate, syncs,
+    /// opens the gate before it, and syncs. A crash leaves the block whole or not at all, and after
+    /// `Ok` it leaves it. The room of the block is taken before the first write. After `Fault` the
+    /// log is started anew.
     pub fn flush<E: Estate>(
         &mut self,
         alloc: Global,
@@ -41,16 +42,20 @@ impl Log {
 
         // once it is added, each image has it
         ensures lands { OnOk result (HasBlocks
-            (with_block body.now (blocks_of (E.world estate.old).holding.log)) (E.world estate.new)) }
+            (with_block body.now (blocks_of (E.world estate.old).holding.log))
+            (E.world estate.new)) }
 
-        ensures started { IsErrOf result LogError.Fault ⊎ IsStarted self.new.end (E.world estate.new) }
+        ensures started { IsErrOf result LogError.Fault
+            ⊎ IsStarted self.new.end (E.world estate.new) }
         ensures end { self.new.end ≡
             (if is_ok result then self.old.end + 9 + length body.now else self.old.end) }
         ensures too_large { AnswersLength (self.old.end + 10 + length body.now) result }
 
         // nothing is called for a block that is too large
-        ensures untouched { LOG_LIMIT < self.old.end + 10 + length body.now → estate.new ≡ estate.old }
-        ensures fault { IsErrOf result LogError.Fault → LogRose (E.world estate.old) (E.world estate.new) }
+        ensures untouched { LOG_LIMIT < self.old.end + 10 + length body.now →
+            estate.new ≡ estate.old }
+        ensures fault { IsErrOf result LogError.Fault →
+            LogRose (E.world estate.old) (E.world estate.new) }
         ensures met { AnswersFaults (E.world estate.old) (E.world estate.new) result }
     {
         let asked = self.end + 10 + body.len() as u64;

@@ -12,8 +12,8 @@ pub enum LogError {
     Fault,
     /// The log has, or would have, this many bytes, which is more than it may.
     TooLarge { asked: u64 },
-    /// The block of this number, from 0, is broken: it and the gate after it do not lie within the log.
-    /// The blocks before it are whole.
+    /// The block of this number, from 0, is broken: it and the gate after it do not lie within the
+    /// log. The blocks before it are whole.
     BadBlock { block: u64, before: Blocks },
     /// Nothing changed.
     NoMemory,

@@ -19,7 +19,8 @@ pub fn view<E: Estate>(alloc: Global, estate: &mut E) -> Result<Blocks, LogError
     ensures adds_nothing { Leads Stays (E.world estate.old) (E.world estate.new) }
     ensures answer { IsTrue (E.world estate.old).told →
         AnswersLog (λ blocks. blocks) (E.world estate.old).holding.log result }
-    ensures fault { IsErrOf result LogError.Fault → LogRose (E.world estate.old) (E.world estate.new) }
+    ensures fault { IsErrOf result LogError.Fault →
+        LogRose (E.world estate.old) (E.world estate.new) }
     ensures met { AnswersFaults (E.world estate.old) (E.world estate.new) result }
 {
     match read_log(estate)? {
@@ -31,10 +32,11 @@ pub fn view<E: Estate>(alloc: Global, estate: &mut E) -> Result<Blocks, LogError
     }
 }
 
-/// Makes the log ready for its next block, and gives its blocks. It syncs, and reads the log once; a log of
-/// at most one byte is fresh, and gets its closed gate.
+/// Makes the log ready for its next block, and gives its blocks. It syncs, and reads the log once;
+/// a log of at most one byte is fresh, and gets its closed gate.
 pub fn start<E: Estate>(alloc: Global, estate: &mut E) -> Result<(Log, Blocks), LogError>
-    // each image since the start has the blocks of one of the start, and its bytes where it was not fresh
+    // each image since the start has the blocks of one of the start, and its bytes where it was not
+    // fresh
     ensures adds_nothing { Leads KeepsBlocks (E.world estate.old) (E.world estate.new) }
     ensures writes { Leads KeepsUnlessFresh (E.world estate.old) (E.world estate.new) }
     ensures unchanged { OnErr result (IsErrOf result LogError.Fault
@@ -46,7 +48,8 @@ pub fn start<E: Estate>(alloc: Global, estate: &mut E) -> Result<(Log, Blocks), 
 
     // once it is started, each image has the blocks that are answered
     ensures lands { IfOk result (λ started. HasBlocks (Some started.1) (E.world estate.new)) }
-    ensures fault { IsErrOf result LogError.Fault → LogRose (E.world estate.old) (E.world estate.new) }
+    ensures fault { IsErrOf result LogError.Fault →
+        LogRose (E.world estate.old) (E.world estate.new) }
     ensures met { AnswersFaults (E.world estate.old) (E.world estate.new) result }
 {
     estate.log_sync()?;
@@ -68,7 +71,8 @@ fn read_log<E: Estate>(estate: &mut E) -> Result<Option<Bytes>, LogError>
     ensures bytes { IsTrue (E.world estate.old).told →
         AnswersBytes (E.world estate.old).holding.log result }
     ensures limit { IfOk result (λ found. IfSome found (λ bytes. length bytes ≤ LOG_LIMIT)) }
-    ensures fault { IsErrOf result LogError.Fault → LogRose (E.world estate.old) (E.world estate.new) }
+    ensures fault { IsErrOf result LogError.Fault →
+        LogRose (E.world estate.old) (E.world estate.new) }
     ensures met { AnswersFaults (E.world estate.old) (E.world estate.new) result }
 {
     let len = estate.log_len()?;
@@ -86,7 +90,8 @@ fn read_log<E: Estate>(estate: &mut E) -> Result<Option<Bytes>, LogError>
 
 // Writes the closed gate of a log that has at most one byte.
 fn close_fresh<E: Estate>(alloc: Global, estate: &mut E) -> Result<(), EstateError>
-    requires fresh { IsTrue (E.world estate.old).told → length (E.world estate.old).holding.log ≤ 1 }
+    requires fresh { IsTrue (E.world estate.old).told →
+        length (E.world estate.old).holding.log ≤ 1 }
     requires synced { IsDurable (E.world estate.old) }
     ensures writes { Leads KeepsUnlessFresh (E.world estate.old) (E.world estate.new) }
     ensures memory { IsErrOf result estate_error.NoMemory →

@@ -40,7 +40,8 @@ fn broken(before: Blocks) -> LogError
 
 // The length of the body behind an open gate, where the body and the next gate are there.
 fn body_len(after: &[u8]) -> Option<usize>
-    ensures { MatchOption result (length after.now ≤ 8 + length_at after.now) (λ n. (n ≡ length_at after.now) × (8 + n < length after.now)) }
+    ensures { MatchOption result (length after.now ≤ 8 + length_at after.now) (λ n. (n
+        ≡ length_at after.now) × (8 + n < length after.now)) }
 {
     if after.len() < 8 {
         return None;

@@ -27,20 +27,12 @@ fn whole_log<E: Estate>(estate: &mut E) -> Result<Bytes, EstateError> {
     estate.log_read(0, len)
 }
 
-fn bodies(alloc: Global, slices: &[&[u8]]) -> Result<Blocks, LogError> {
-    let mut made = Blocks::new(alloc);
-    for slice in slices {
-        made.push(Bytes::from_slice(alloc, slice)?)?;
-    }
-    Ok(made)
-}
-
-// Starts the log, adds these blocks, and gives those that it had.
-fn add<E: Estate>(alloc: Global, estate: &mut E, slices: &[&[u8]]) -> Result<Blocks, LogError> {
-    let more = bodies(alloc, slices)?;
+// Starts the log, adds a block if there is one, and gives those that it had.
+fn add<E: Estate>(alloc: Global, estate: &mut E, body: Option<&[u8]>) -> Result<Blocks, LogError> {
     let (mut log, blocks) = start(alloc, estate)?;
-    for body in more.as_slice() {
-        log.flush(alloc, estate, body)?;
+    if let Some(body) = body {
+        let body = Bytes::from_slice(alloc, body)?;
+        log.flush(alloc, estate, &body)?;
     }
     Ok(blocks)
 }
@@ -58,7 +50,7 @@ fn are(blocks: &Blocks, want: &[&[u8]]) -> bool {
 fn a_block_counts_once_its_gate_is_open(rt: HostRuntime) -> Result<(), Fail> {
     let alloc = rt.alloc();
     let mut estate = failing_at(alloc, &[])?;
-    add(alloc, &mut estate, &[&BODY])?;
+    add(alloc, &mut estate, Some(&BODY))?;
     // the beginning, and two moments for each of the four calls of a start and the four of a flush
     assert_eq!(rt; estate.moments(), 17);
     // the exit of the first sync of the flush
@@ -70,22 +62,9 @@ fn a_block_counts_once_its_gate_is_open(rt: HostRuntime) -> Result<(), Fail> {
     opened[0] = 0x4d;
     let mut estate = with_log(alloc, &opened)?;
     assert!(rt; are(&view(alloc, &mut estate)?, &[&BODY]));
-    assert!(rt; are(&add(alloc, &mut estate, &[])?, &[&BODY]));
+    assert!(rt; are(&add(alloc, &mut estate, None)?, &[&BODY]));
     // of seven calls two made the log, two viewed it and three started it
     assert_eq!(rt; estate.moments(), 15);
-    Ok(())
-}
-
-#[test]
-fn a_log_of_one_byte_is_fresh(rt: HostRuntime) -> Result<(), Fail> {
-    let alloc = rt.alloc();
-    let mut estate = with_log(alloc, &[9])?;
-    assert!(rt; are(&view(alloc, &mut estate)?, &[]));
-    assert!(rt; are(&add(alloc, &mut estate, &[])?, &[]));
-    // of seven calls two made the log, one viewed it and four started it
-    assert_eq!(rt; estate.moments(), 15);
-    let log = whole_log(&mut estate)?;
-    assert!(rt; log.as_slice() == [0].as_slice());
     Ok(())
 }
 
@@ -98,7 +77,7 @@ fn is_broken<T>(answer: &Result<T, LogError>, number: u64, want: &[&[u8]]) -> bo
 }
 
 #[test]
-fn a_broken_block_is_told_with_those_before_it(rt: HostRuntime) -> Result<(), Fail> {
+fn a_broken_block_is_answered_with_those_before_it(rt: HostRuntime) -> Result<(), Fail> {
     let alloc = rt.alloc();
     let mut estate = with_log(alloc, &[1, 0, 0, 0, 0, 0, 0, 0, 1, 9, 0])?;
     assert!(rt; are(&view(alloc, &mut estate)?, &[&[9]]));
@@ -114,36 +93,6 @@ fn a_broken_block_is_told_with_those_before_it(rt: HostRuntime) -> Result<(), Fa
     Ok(())
 }
 
-// How many of two blocks a crash leaves. Their gates are written in the calls 6 and 10, and synced in the
-// calls 7 and 11; half of a write of one byte is none.
-fn blocks_left(moment: u64, choice: u32) -> usize {
-    match (moment, choice) {
-        (0..=12, _) | (13..=15, 0 | 3) => 0,
-        (13..=20, _) | (21..=23, 0 | 3) => 1,
-        _ => 2,
-    }
-}
-
-#[test]
-fn a_flush_stopped_at_every_moment(rt: HostRuntime) -> Result<(), Fail> {
-    let alloc = rt.alloc();
-    let all: [&[u8]; 3] = [b"ab", b"", b"next"];
-    let mut estate = failing_at(alloc, &[])?;
-    add(alloc, &mut estate, &all[..2])?;
-    assert_eq!(rt; estate.moments(), 25);
-    for moment in 0u64..25 {
-        for choice in 0..4 {
-            let mut left = estate.crash(moment, choice)?;
-            let had = add(alloc, &mut left, &all[2..])?;
-            let n = blocks_left(moment, choice);
-            assert!(rt; n <= 2 && are(&had, &all[..n]), "at {moment} by {choice}");
-            let now = view(alloc, &mut left)?;
-            assert_eq!(rt; now.as_slice().len(), n + 1);
-        }
-    }
-    Ok(())
-}
-
 #[test]
 fn each_call_failing_in_turn(rt: HostRuntime) -> Result<(), Fail> {
     let alloc = rt.alloc();
@@ -151,27 +100,13 @@ fn each_call_failing_in_turn(rt: HostRuntime) -> Result<(), Fail> {
     for call in 0u64..8 {
         let mut estate = failing_at(alloc, &[call])?;
         assert!(rt;
-            matches!(add(alloc, &mut estate, &[&BODY]), Err(LogError::Fault)),
+            matches!(add(alloc, &mut estate, Some(&BODY)), Err(LogError::Fault)),
             "at {call}"
         );
         assert_eq!(rt; estate.moments(), 2 * call + 3);
         // a call that failed had no effect, so only a block that was not synced is found
-        let had = add(alloc, &mut estate, &all)?;
+        let had = add(alloc, &mut estate, Some(&BODY))?;
         assert!(rt; are(&had, &all[..usize::from(call == 7)]), "at {call}");
     }
-    Ok(())
-}
-
-#[test]
-fn a_body_one_byte_too_long_is_refused_before_any_call(rt: HostRuntime) -> Result<(), Fail> {
-    let alloc = rt.alloc();
-    let mut estate = failing_at(alloc, &[])?;
-    let (mut log, _blocks) = start(alloc, &mut estate)?;
-    let moments = estate.moments();
-    let body = Bytes::from_vec(vec![in alloc; 0u8; 268_435_447]?);
-    let answer = log.flush(alloc, &mut estate, &body);
-    assert!(rt; matches!(answer, Err(LogError::TooLarge { asked: 268_435_457 })));
-    assert_eq!(rt; estate.moments(), moments);
-    assert_eq!(rt; log.end, 0);
     Ok(())
 }

@@ -20,7 +20,8 @@ commit_error estate.NoMemory = NoMemory
 abbrev pub AnswersOn : Commit → List Commit → List Commit → Result Committed CommitError → Type 0
 AnswersOn commit old new (Ok Before) = (job_under commit.id old ≡ Some commit.job) × (new ≡ old)
 AnswersOn commit old new (Ok Fresh) = (job_under commit.id old ≡ None) × (new ≡ old ++ commit ∷ [])
-AnswersOn commit old new (Err (IdTaken other)) = (job_under commit.id old ≡ Some other) × (other ≢ commit.job) × (new ≡ old)
+AnswersOn commit old new (Err (IdTaken other)) =
+    (job_under commit.id old ≡ Some other) × (other ≢ commit.job) × (new ≡ old)
 AnswersOn commit old new (Err SinkFault) = ⊤
 AnswersOn commit old new (Err NoMemory) = new ≡ old
 
@@ -43,8 +44,10 @@ AddsAs commit result = Step Same None (may_add commit result)
 -- whatever a crash now leaves, the commit stands behind those that stood before
 abbrev pub Lands : Commit → World → World → Type 0
 Lands commit old new =
-    (image : Holding) → new.images new.now image → image.commits ≡ old.holding.commits ++ commit ∷ []
+    (image : Holding) → new.images new.now image →
+    image.commits ≡ old.holding.commits ++ commit ∷ []
 
 -- a fault of the sink is answered: it is the answer, or the sink's count is as it was
 abbrev pub AnswersFaults : World → World → Result Committed CommitError → Type 0
-AnswersFaults old new result = IsErrOf result SinkFault ⊎ (new.counts.sink_faults ≡ old.counts.sink_faults)
+AnswersFaults old new result =
+    IsErrOf result SinkFault ⊎ (new.counts.sink_faults ≡ old.counts.sink_faults)

@@ -16,9 +16,11 @@ pub fn commit_once<E: Estate>(
     text: &Bytes,
 ) -> Result<Committed, CommitError>
     ensures answer { IsTrue (E.world estate.old).told →
-        Answers (commit_of id.now job.now text.now) (E.world estate.old) (E.world estate.new) result }
+        Answers (commit_of id.now job.now text.now) (E.world estate.old)
+        (E.world estate.new) result }
 
-    // each image since the start is one of the start, alone or, where the answer allows it, with the commit
+    // each image since the start is one of the start, alone or, where the answer allows it, with
+    // the commit
     ensures adds { Leads (AddsAs (commit_of id.now job.now text.now) result)
         (E.world estate.old) (E.world estate.new) }
 
@@ -31,7 +33,8 @@ pub fn commit_once<E: Estate>(
     ensures lands { result ≡ Ok Committed.Fresh → IsTrue (E.world estate.old).told →
         Lands (commit_of id.now job.now text.now) (E.world estate.old) (E.world estate.new) }
 
-    ensures fault { IsErrOf result CommitError.SinkFault → SinkRose (E.world estate.old) (E.world estate.new) }
+    ensures fault { IsErrOf result CommitError.SinkFault →
+        SinkRose (E.world estate.old) (E.world estate.new) }
     ensures met { AnswersFaults (E.world estate.old) (E.world estate.new) result }
 {
     match estate.sink_committed(id)? {

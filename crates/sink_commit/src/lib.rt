@@ -1,4 +1,5 @@
-//! Commits a job's text to the sink once: the sink is asked first, and what stands under the id decides.
+//! Commits a job's text to the sink once: the sink is asked first, and what stands under the id
+//! decides.
 #![tactic(auto)]
 
 mod commit;

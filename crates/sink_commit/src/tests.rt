@@ -52,25 +52,3 @@ fn a_fault_of_either_call_is_answered(rt: HostRuntime) -> Result<(), Fail> {
     }
     Ok(())
 }
-
-#[test]
-fn a_crash_at_any_moment_leaves_one_commit_after_the_next(rt: HostRuntime) -> Result<(), Fail> {
-    let alloc = rt.alloc();
-    let mut estate = failing_at(alloc, &[])?;
-    assert!(rt; matches!(commit(alloc, &mut estate, b"job"), Ok(Committed::Fresh)));
-    assert_eq!(rt; estate.moments(), 5);
-    for moment in 0u64..5 {
-        let mut left = estate.crash(moment, 1)?;
-        let stood = left.commits()?;
-        assert_eq!(rt; stood.as_slice().len(), usize::from(moment == 4));
-        let next = commit(alloc, &mut left, b"job");
-        assert_eq!(rt;
-            matches!(next, Ok(Committed::Before)),
-            moment == 4,
-            "at {moment}"
-        );
-        let commits = left.commits()?;
-        assert_eq!(rt; commits.as_slice().len(), 1);
-    }
-    Ok(())
-}
