@@ -19,17 +19,21 @@ abbrev pub IsAnswered : Answer → ℕ → ℕ → Answer → Type 0
 IsAnswered fault before now answer = (now ≡ before) ⊎ Contains (fault ∷ NoMemory ∷ []) answer
 
 -- how a run of these words ends
-pub record RunOutcome (words : List (List ℕ)) (old new : Outside) (before after : Printed) (answer : Answer) : Type 0 where
+pub record RunOutcome (words : List (List ℕ)) (old new : Outside) (before after : Printed)
+    (answer : Answer) : Type 0 where
   pub line : List ℕ
   pub cause : RunCause (run_refusal words) line old new answer
   pub prints : Prints line before after answer
   pub adds : MayCommit old.inputs old.estate new.estate
-  pub stays : (answer ≡ Finished) ⊎ (answer ≡ PrintFault) ⊎ StaysUnlessFailed old.estate new.estate answer
+  pub stays : (answer ≡ Finished) ⊎ (answer ≡ PrintFault)
+      ⊎ StaysUnlessFailed old.estate new.estate answer
   pub input_met : IsAnswered InputFault old.inputs.faults new.inputs.faults answer
-  pub sink_met : IsAnswered SinkFault old.estate.counts.sink_faults new.estate.counts.sink_faults answer
+  pub sink_met : IsAnswered SinkFault
+      old.estate.counts.sink_faults new.estate.counts.sink_faults answer
 
 -- how a look at what these words ask for ends
-pub record LookOutcome (words : List (List ℕ)) (old new : Outside) (before after : Printed) (answer : Answer) : Type 0 where
+pub record LookOutcome (words : List (List ℕ)) (old new : Outside) (before after : Printed)
+    (answer : Answer) : Type 0 where
   pub text : List ℕ
   pub cause : LookCause (view_of words) text old.inputs new.inputs answer
   pub prints : Prints text before after answer

@@ -65,7 +65,7 @@ fn estate_error(faults: &mut u64, error: io::Error) -> EstateError
 impl<'a, R: Files + AllocGlobal> Estate for FolderEstate<'a, R> {
     ghost use Rattle.batch_main.specs.FolderWorld.{folder_lawful};
 
-    ghost world = { λ estate. folder_world estate.log_faults estate.shelf_faults estate.sink_faults };
+    ghost world = { λ e. folder_world e.log_faults e.shelf_faults e.sink_faults };
 
     fn log_len(&mut self) -> Result<u64, EstateError> {
         Ok(self.log.len())
@@ -125,7 +125,7 @@ impl<'a, R: Files + AllocGlobal> Estate for FolderEstate<'a, R> {
         }
     }
 
-    ghost lawful = { λ estate. folder_lawful estate.log_faults estate.shelf_faults estate.sink_faults };
+    ghost lawful = { λ e. folder_lawful e.log_faults e.shelf_faults e.sink_faults };
 }
 
 const OUT: &str = "estate/out";

@@ -48,7 +48,8 @@ fn input_error(faults: &mut u64, error: io::Error) -> InputError
 }
 
 impl<'a, R: Files + AllocGlobal + Clone + Drop> Inputs for FolderInputs<'a, R> {
-    ghost contents = { λ inputs. record { told = false; job = []; files = λ table. []; faults = inputs.faults } };
+    ghost contents = { λ i.
+        record { told = false; job = []; files = λ table. []; faults = i.faults } };
 
     fn job_text(&mut self) -> Result<Bytes, InputError> {
         match fs::read(self.rt, "job.json") {

@@ -40,12 +40,14 @@ pub fn look<E: Estate, I: Inputs, P: Printer>(
 
     // Where it answers Shown, exactly the text was printed that the words ask for.
     ensures shown { result.answer ≡ Answer.Shown → IsTrue (P.printed printer.old).told →
-        (text : List ℕ) × ShowsAsked (view_of (map string_bytes words.now)) (I.contents inputs.old) text
+        (text : List ℕ)
+        × ShowsAsked (view_of (map string_bytes words.now)) (I.contents inputs.old) text
         × ((P.printed printer.new).bytes ≡ (P.printed printer.old).bytes ++ text) }
 
     // An accepted job is shown, where nothing fails and memory suffices.
     ensures completes { IsOk (view_of (map string_bytes words.now))
-        → IsTrue (I.contents inputs.old).told → (job : Job) → IsAccepted (I.contents inputs.old).job job
+        → IsTrue (I.contents inputs.old).told
+        → (job : Job) → IsAccepted (I.contents inputs.old).job job
         → ¬ (Rose (I.contents inputs.old).faults (I.contents inputs.new).faults)
         → ¬ (Rose (P.printed printer.old).faults (P.printed printer.new).faults)
         → Contains (Answer.Shown ∷ Answer.NoMemory ∷ []) result.answer }

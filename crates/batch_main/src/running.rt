@@ -73,7 +73,8 @@ pub fn run<E: Estate, I: Inputs, P: Printer, C: Clock, G: Gate>(
         → result.answer ≡ Answer.JobRefused kind node name
         → HasFault (I.contents inputs.old) (record { kind = kind; node = node; name = name }) }
     ensures refused_always { IsNone (run_refusal (map string_bytes words.now))
-        → (fault : JobRefusal) → IsTrue (I.contents inputs.old).told → HasFault (I.contents inputs.old) fault
+        → (fault : JobRefusal)
+        → IsTrue (I.contents inputs.old).told → HasFault (I.contents inputs.old) fault
         → Contains (job_answer fault ∷ Answer.InputFault ∷ Answer.NoMemory ∷ []) result.answer }
 
     // `not-built commit` exactly where the sink has a commit under the job's name.
