@@ -5,7 +5,8 @@ use Rattle.plan_model.specs.declared.setting_values.SettingValues.{SettingValues
 use Rattle.slow_detector.specs.declared.run.Run.{Run}
 
 -- enough of the vertex's subtasks are finished to tell what is slow
-pub record EnoughFinished (settings : SettingValues) (parallelism : ℕ) (times : List ℕ) : Type 0 where
+pub record EnoughFinished (settings : SettingValues) (parallelism : ℕ) (times : List ℕ)
+    : Type 0 where
   pub some : 0 < length times
   pub ratio : settings.slow_ratio * parallelism ≤ 100 * length times
 
@@ -26,10 +27,13 @@ is_slow now limit attempts run = nat_le limit (now - run.since) && nat_lt run.ru
 
 -- the subtasks of the slow ones among the running
 abbrev pub slow_subtasks : ℕ → ℕ → ℕ → List Run → List ℕ
-slow_subtasks now limit attempts running = map (λ run. run.subtask) (filter (is_slow now limit attempts) running)
+slow_subtasks now limit attempts running =
+    map (λ run. run.subtask) (filter (is_slow now limit attempts) running)
 
 -- the slow ones among the running, by the median of the finished ones' times
-pub record AreTheSlow (settings : SettingValues) (now : ℕ) (times : List ℕ) (running : List Run) (subtasks : List ℕ) : Type 0 where
+pub record AreTheSlow (settings : SettingValues) (now : ℕ) (times : List ℕ) (running : List Run)
+    (subtasks : List ℕ) : Type 0 where
   pub median : ℕ
   pub is_median : IsMedian times median
-  pub slow : IsPermutation (slow_subtasks now (baseline settings median) settings.attempts running) subtasks
+  pub slow : IsPermutation
+      (slow_subtasks now (baseline settings median) settings.attempts running) subtasks

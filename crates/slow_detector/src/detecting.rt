@@ -6,8 +6,8 @@ use crate::{NoMemory, Run, Runs, Subtasks, Times};
 use plan_model::Settings;
 use std::alloc::Global;
 
-/// The slow subtasks of a vertex at this millisecond, by the running times of its finished subtasks; docs/SEMANTICS.md
-/// has the rule.
+/// The slow subtasks of a vertex at this millisecond, by the running times of its finished
+/// subtasks; docs/SEMANTICS.md has the rule.
 pub fn slow(
     alloc: Global,
     now: u64,
@@ -18,7 +18,8 @@ pub fn slow(
 ) -> Result<Subtasks, NoMemory>
     ensures slow { EnoughFinished settings.now parallelism times.now
         → IfOk result (AreTheSlow settings.now now times.now running.now) }
-    ensures too_few { ¬ EnoughFinished settings.now parallelism times.now → IfOk result (λ slow. slow ≡ []) }
+    ensures too_few { ¬ EnoughFinished settings.now parallelism times.now
+        → IfOk result (λ slow. slow ≡ []) }
     ensures ascending { IfOk result (IsSorted nat_cmp) }
 {
     if !enough_finished(parallelism, times.as_slice(), settings) {

@@ -1,5 +1,5 @@
-//! Which running subtasks of a vertex are slow: they have run much longer than the finished ones took, and get further
-//! attempts.
+//! Which running subtasks of a vertex are slow: they have run much longer than the finished ones
+//! took, and get further attempts.
 #![tactic(auto)]
 
 mod detecting;
