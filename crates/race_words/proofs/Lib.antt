@@ -1,0 +1,4 @@
+mod Lists
+mod Winners
+mod Keeps
+mod Allowing
