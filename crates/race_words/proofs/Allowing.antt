@@ -1,15 +1,15 @@
 -- What the table asks of each step.
-use Rattle.std.proofs.Common.{◌≡◌, ◌≢◌, ℕ, ◌+◌, ◌<◌, ◌==◌, List, [], ◌∷◌, set, Bool, true, false, refl, sym, ap, ◌∙◌, subst, arith, cond, replicate}
+use Rattle.std.proofs.Common.{◌≡◌, ℕ, ◌+◌, ◌<◌, ◌==◌, List, [], ◌∷◌, set, Bool, true, false, refl, sym, ap, ◌∙◌, subst, arith, cond, replicate}
 use Rattle.std.specs.Prelude.{slice_index, Option, Some}
 use Rattle.std.proofs.lemmas.Bool.Decides.{nat_tests}
 use mathlib.Core.Option.{some, none}
 use lib.ListN.{get_elem?}
 use prog.Atomic.{either}
 use Rattle.atomic_table.proofs.Lists.{set_again}
-use Rattle.atomic_table.specs.Table.{State, Me, Step, step, Allows, Splits, Joins, Act, keeps, opening}
+use Rattle.atomic_table.specs.Table.{State, Me, step, Allows, Splits, Joins, keeps, opening}
 use Rattle.race_words.specs.declared.view.View.{View}
 use Rattle.race_words.specs.Words.{round_of, winner_of, undecided, decided}
-use Rattle.race_words.specs.Views.{opening_view, newcomer, win, observing, began, joined}
+use Rattle.race_words.specs.Views.{opening_view, newcomer, observing, began, joined}
 use Rattle.race_words.specs.Kept.{IsKept, Kept, Begins, ReadsRound, Observes, Decides, Compares, observed, exchanged}
 use Rattle.race_words.proofs.Lists.{set_same}
 use Rattle.race_words.proofs.Winners.{round_of-undecided, round_of-decided, winner_of-decided}

@@ -1,5 +1,5 @@
 -- Each step keeps the rule.
-use Rattle.std.proofs.Common.{◌≡◌, ◌≢◌, ◌⊎◌, ℕ, zero, suc, ◌+◌, ◌-◌, ◌<◌, ◌≤◌, ◌==◌, ◌&&◌, List, [], ◌∷◌, ◌++◌, length, set, get_or, Bool, true, false, true≢false, refl, sym, ap, ◌∙◌, subst, inl, inr, ⊎_elim, arith, cond, sum_by, count_by, replicate}
+use Rattle.std.proofs.Common.{◌≡◌, ◌≢◌, ℕ, zero, suc, ◌+◌, ◌<◌, ◌≤◌, ◌==◌, ◌&&◌, List, [], ◌∷◌, ◌++◌, set, get_or, Bool, true, false, true≢false, refl, sym, ap, ◌∙◌, subst, ⊎_elim, arith, cond, sum_by, replicate}
 use Rattle.std.specs.Prelude.{slice_index, All, Option, Some, None}
 use Rattle.std.proofs.lemmas.Bool.Decides.{nat_tests}
 use Rattle.std.proofs.lemmas.List.Elements.{All-append}
@@ -13,8 +13,8 @@ use Rattle.race_words.specs.declared.view.Observation.{Observation}
 use Rattle.race_words.specs.declared.view.View.{View}
 use Rattle.race_words.specs.Words.{round_of, winner_of, undecided, decided}
 use Rattle.race_words.specs.Views.{opening_view, newcomer, shown, win, observing, began, joined}
-use Rattle.race_words.specs.Kept.{Names, Stands, is_win, wins, Fits, IsKept, Agree, observed}
-use Rattle.race_words.proofs.Lists.{inside, set_same, at_same, at_other, sum_set, sum_none, at_most_sum}
+use Rattle.race_words.specs.Kept.{Stands, is_win, wins, Fits, IsKept, Agree, observed}
+use Rattle.race_words.proofs.Lists.{at_same, at_other, sum_set, sum_none, at_most_sum}
 use Rattle.race_words.proofs.Winners.{round_of-undecided, round_of-decided, winner_of-undecided, winner_of-decided, no_winner, if_some, same_or_not}
 
 abbrev as_one : Bool → ℕ

@@ -1,12 +1,12 @@
 -- What always holds of the words and of what the seats know, and what each kind of step tells.
-use Rattle.std.specs.Prelude.{◌≡◌, ◌≤◌, ◌==◌, ℕ, Bool, true, ◌&&◌, Option, Some, List, if◌then◌else◌, slice_index, sum_by, count_by, length, All, IfSome}
+use Rattle.std.specs.Prelude.{◌≡◌, ◌≤◌, ◌==◌, ℕ, Bool, true, ◌&&◌, Some, List, if◌then◌else◌, slice_index, sum_by, count_by, length, All, IfSome}
 use mathlib.Core.Option.{some}
 use lib.ListN.{get_elem?}
 use Rattle.atomic_table.specs.Table.{State, Me, Step}
 use Rattle.race_words.specs.declared.view.Observation.{Observation}
 use Rattle.race_words.specs.declared.view.View.{View}
 use Rattle.race_words.specs.Words.{round_of, winner_of}
-use Rattle.race_words.specs.Views.{shown, win, observing, began}
+use Rattle.race_words.specs.Views.{shown, observing, began}
 
 -- the runner that this names is the one for its lane and round
 abbrev pub Names : (ℕ → ℕ → ℕ) → Observation → Type 0
@@ -49,7 +49,8 @@ pub record IsKept (lanes master : ℕ) (winner : ℕ → ℕ → ℕ) (words : L
   pub count : length words ≡ lanes
   pub winners : (lane runner : ℕ) → winner_of (slice_index words lane) ≡ Some runner
       → runner ≡ winner lane (round_of (slice_index words lane))
-  pub seats : (seat : ℕ) (v : View) → get_elem? views seat ≡ some v → Fits lanes master winner words seat v
+  pub seats : (seat : ℕ) (v : View) → get_elem? views seat ≡ some v
+      → Fits lanes master winner words seat v
   pub once : (lane round : ℕ) → sum_by (λ (v : View). wins lane round v.observations) views ≤ 1
 
 -- the rule of the table: there is one master, and one winner for each decided round
@@ -65,7 +66,7 @@ observed lane word v = observing v (shown lane (round_of word) (winner_of word))
 abbrev pub exchanged : ℕ → ℕ → ℕ → ℕ → View → View
 exchanged lane old new word v =
     if word == old
-    then observing v (record { lane = lane; round = round_of new; winner = winner_of new; won = true })
+    then observing v (record (shown lane (round_of new) (winner_of new)) { won = true })
     else observed lane word v
 
 -- a swap to the new word begins its round

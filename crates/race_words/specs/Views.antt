@@ -1,5 +1,5 @@
 -- What a seat knows of the races, and how it grows.
-use Rattle.std.specs.Prelude.{ℕ, Bool, true, false, Option, Some, List, [], ◌∷◌, ◌++◌, replicate, slice_set}
+use Rattle.std.specs.Prelude.{ℕ, true, false, Option, Some, [], ◌∷◌, ◌++◌, replicate, slice_set}
 use Rattle.race_words.specs.declared.view.Observation.{Observation}
 use Rattle.race_words.specs.declared.view.View.{View}
 
@@ -24,14 +24,14 @@ win lane round runner =
 -- the view with one observation more
 abbrev pub observing : View → Observation → View
 observing v o =
-    record { is_master = v.is_master; rounds = v.rounds; observations = v.observations ++ o ∷ [] }
+    record v { observations = v.observations ++ o ∷ [] }
 
 -- the view after the master began this round of the lane
 abbrev pub began : ℕ → ℕ → View → View
 began lane round v =
-    record { is_master = v.is_master; rounds = slice_set v.rounds lane round; observations = v.observations }
+    record v { rounds = slice_set v.rounds lane round }
 
 -- the first view with what the second has observed
 abbrev pub joined : View → View → View
 joined v w =
-    record { is_master = v.is_master; rounds = v.rounds; observations = v.observations ++ w.observations }
+    record v { observations = v.observations ++ w.observations }

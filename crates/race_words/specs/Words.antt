@@ -24,11 +24,11 @@ decided round runner = round * 256 + (runner + 1)
 -- what the answer to a poll of the round says of the word
 abbrev pub PollShows : ℕ → ℕ → Poll → Type 0
 PollShows round word poll.Undecided = (round_of word ≡ round) × (winner_of word ≡ None)
-PollShows round word (poll.Decided winner) = (round_of word ≡ round) × (winner_of word ≡ Some winner)
+PollShows round word (poll.Decided k) = (round_of word ≡ round) × (winner_of word ≡ Some k)
 PollShows round word (poll.Past shown) = (round_of word ≡ shown) × (shown ≢ round)
 
 -- what the answer to a runner that is done says of the word that it found
 abbrev pub FinishShows : ℕ → ℕ → Finish → Type 0
 FinishShows round word finish.Won = (round_of word ≡ round) × (winner_of word ≡ None)
-FinishShows round word (finish.Lost winner) = (round_of word ≡ round) × (winner_of word ≡ Some winner)
+FinishShows round word (finish.Lost k) = (round_of word ≡ round) × (winner_of word ≡ Some k)
 FinishShows round word (finish.Past shown) = (round_of word ≡ shown) × (shown ≢ round)

@@ -1,5 +1,6 @@
-//! Races of the attempts of one subtask. Each lane is one word, and a round of it is decided for one
-//! attempt by one exchange of that word, without a lock. What a thread was told stands in its seat.
+//! Races of the attempts of one subtask. Each lane is one word, and a round of it is decided for
+//! one attempt by one exchange of that word, without a lock. What a thread was told stands in its
+//! seat.
 #![tactic(auto)]
 
 mod finish;

@@ -5,7 +5,8 @@ use Rattle.plan_model.specs.declared.setting_values.SettingValues.{SettingValues
 use Rattle.slow_detector.specs.declared.run.Run.{Run}
 
 -- enough of the vertex's subtasks are finished to tell what is slow
-pub record EnoughFinished (settings : SettingValues) (parallelism : ℕ) (times : List ℕ) : Type 0 where
+pub record EnoughFinished (settings : SettingValues) (parallelism : ℕ) (times : List ℕ)
+    : Type 0 where
   pub some : 0 < length times
   pub ratio : settings.slow_ratio * parallelism ≤ 100 * length times
 

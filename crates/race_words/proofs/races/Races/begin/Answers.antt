@@ -1,4 +1,4 @@
-use Rattle.std.proofs.Common.{◌+◌, arith, ap, ◌∙◌}
+use Rattle.std.proofs.Common.{arith, ap, ◌∙◌}
 use Rattle.std.specs.Prelude.{slice_index}
 use Rattle.race_words.specs.declared.view.View.{View}
 use Rattle.race_words.proofs.Allowing.{may_read_round, may_begin}

@@ -1,5 +1,4 @@
-use Rattle.std.proofs.Common.{◌≡◌, rules, replicate, subst, sym}
-use Rattle.race_words.specs.Views.{opening_view}
+use Rattle.std.proofs.Common.{◌≡◌, rules, replicate}
 use Rattle.race_words.proofs.Allowing.{may_open}
 use Rattle.race_words.proofs.races.Races.new.Goals as goal
 

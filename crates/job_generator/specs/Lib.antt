@@ -1,0 +1,2 @@
+pub mod GeneratedJob
+pub mod GeneratedTables
