@@ -23,16 +23,20 @@ impl<'c> Model for Batches<'c> {
 
     ghost Value = { List (List (List OneValue)) };
 
-    ghost view = { λ batches. map (λ file. through (stages_of batches.stages.items) (batch_rows file)) batches.files.items };
+    ghost view = { λ batches. map (λ file. through (stages_of batches.stages.items)
+        (batch_rows file)) batches.files.items };
 
-    ghost invariant = { λ batches. All IsReady batches.stages.items × All (λ file. AllFit (stages_of batches.stages.items) (batch_rows file)) batches.files.items };
+    ghost invariant = { λ batches. All IsReady batches.stages.items
+        × All (λ file. AllFit (stages_of batches.stages.items)
+        (batch_rows file)) batches.files.items };
 }
 
 impl<'c> Batches<'c> {
     pub fn new(files: Vec<FileBatch<'c>>, stages: Vec<ReadyStage<'c>>) -> Self
         requires ready { All IsReady stages.items }
         requires fit { All (λ file. AllFit (stages_of stages.items) (batch_rows file)) files.items }
-        ensures { result ≡ map (λ file. through (stages_of stages.entry.items) (batch_rows file)) files.entry.items }
+        ensures { result ≡ map (λ file. through (stages_of stages.entry.items)
+            (batch_rows file)) files.entry.items }
     {
         Batches { files, stages }
     }

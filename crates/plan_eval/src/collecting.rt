@@ -28,7 +28,8 @@ pub fn all_rows(alloc: Global, batches: &Batches<'_>) -> Result<Rows, NoMemory>
 
 /// The lines of all rows. Of each batch its lines alone stay.
 pub fn all_lines(alloc: Global, batches: &Batches<'_>) -> Result<SinkLines, NoMemory>
-    ensures { IfOk result (λ lines. (rows : List OneRow) × (lines ≡ map line_of rows) × SameBag rows (flat_map (λ batch. batch) batches.now)) }
+    ensures { IfOk result (λ lines. (rows : List OneRow) × (lines ≡ map line_of rows)
+        × SameBag rows (flat_map (λ batch. batch) batches.now)) }
 {
     concatenations();
     let mut lines = SinkLines::new(alloc);
@@ -41,7 +42,8 @@ pub fn all_lines(alloc: Global, batches: &Batches<'_>) -> Result<SinkLines, NoMe
 
 /// One of each row.
 pub fn distinct_rows(alloc: Global, batches: &Batches<'_>) -> Result<Rows, NoMemory>
-    ensures { IfOk result (λ rows. SameBag rows (one_of_each (flat_map (λ batch. batch) batches.now))) }
+    ensures { IfOk result (λ rows. SameBag rows (one_of_each (flat_map
+        (λ batch. batch) batches.now))) }
 {
     distinct_goes_by_parts();
     let mut distinct = DistinctRows::new(alloc);
@@ -59,7 +61,8 @@ pub fn grouped_rows(
     aggs: &[Agg],
     batches: &Batches<'_>,
 ) -> Result<Rows, NoMemory>
-    ensures { IfOk result (λ rows. SameBag rows (aggregated keys.now aggs.now (flat_map (λ batch. batch) batches.now))) }
+    ensures { IfOk result (λ rows. SameBag rows (aggregated keys.now aggs.now (flat_map
+        (λ batch. batch) batches.now))) }
 {
     let mut groups = Groups::new(alloc, keys, aggs);
     for place in 0..batches.len() {

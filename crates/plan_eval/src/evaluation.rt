@@ -27,8 +27,8 @@ use plan_model::{JoinKind, KeyPairs, Node, Op, Schema, Widths};
 use row_core::{Bytes, NoMemory, Row, Rows};
 use std::alloc::Global;
 
-/// The nodes of a plan that have run so far. Rows are let go, or moved on, with the last node that takes
-/// them.
+/// The nodes of a plan that have run so far. Rows are let go, or moved on, with the last node that
+/// takes them.
 #[derive(Drop)]
 pub struct Evaluation<'a> {
     // for each node of the plan the place of the last one that takes its rows, 0 where none does
@@ -61,7 +61,8 @@ impl<'a> Evaluation<'a> {
 
     /// Adds what the next node gives.
     pub fn push(&mut self, output: NodeOutput<'a>) -> Result<(), NoMemory>
-        ensures outputs { OnOk result (self.new.outputs.items ≡ self.old.outputs.items ++ output.entry ∷ []) }
+        ensures outputs { OnOk result (self.new.outputs.items ≡ self.old.outputs.items
+            ++ output.entry ∷ []) }
         ensures last { self.new.last.items ≡ self.old.last.items }
         ensures text { self.new.text ≡ self.old.text }
     {
@@ -77,8 +78,8 @@ impl<'a> Evaluation<'a> {
         node: &'a Node,
     ) -> Result<NodeOutput<'a>, NoMemory>
         requires { MayRun node.now.op node.now.inputs self.old }
-        ensures { IfOk result
-            (λ output. HasRun (files_of tables.now) node.now.op node.now.inputs self.old self.new output) }
+        ensures { IfOk result (λ output.
+            HasRun (files_of tables.now) node.now.op node.now.inputs self.old self.new output) }
     {
         let inputs = node.inputs.as_slice();
         match &node.op {
@@ -149,7 +150,7 @@ impl<'a> Evaluation<'a> {
         Ok(NodeRows::Materialized(applied))
     }
 
-    // A union: the scans of its inputs one after the other, where they have not run; else their rows.
+    // A union: the scans of its inputs, one after the other, where they have not run; else their rows.
     fn run_union(&mut self, alloc: Global, inputs: &[u32]) -> Result<NodeOutput<'a>, NoMemory>
         requires { MayRun UnionOp inputs.now self.old }
         ensures { IfOk result (λ output. (files : List ℕ → List (List ℕ))
@@ -299,7 +300,8 @@ impl<'a> Evaluation<'a> {
     fn scans_of(&self, alloc: Global, inputs: &[u32]) -> Result<Option<Vec<Scan<'a>>>, NoMemory>
         requires { All (λ input. input < length self.now.outputs.items) inputs.now }
         ensures { IfOk result (λ option. IfSome option (λ scans.
-            flat_map scan_rows scans.items ≡ flat_map (λ bag. bag.rows) (inputs_in self.now inputs.now))) }
+            flat_map scan_rows scans.items ≡ flat_map (λ bag. bag.rows)
+            (inputs_in self.now inputs.now))) }
     {
         let mut all = Vec::new(alloc);
         for (at, input) in inputs.iter().enumerate() {
@@ -359,7 +361,8 @@ impl<'a> Evaluation<'a> {
     // The lines of a sink.
     fn take_lines(&mut self, alloc: Global, input: u32) -> Result<Bytes, NoMemory>
         requires { input < length self.old.outputs.items }
-        ensures lines { IfOk result (λ lines. lines ≡ sorted_lines (bag_at self.old.outputs.items input).rows) }
+        ensures lines { IfOk result (λ lines. lines ≡ sorted_lines
+            (bag_at self.old.outputs.items input).rows) }
         ensures kept { OnOk result (Keeps self.old self.new) }
         ensures text { OnOk result (self.new.text ≡ self.old.text) }
     {
@@ -389,7 +392,8 @@ impl<'a> Evaluation<'a> {
         requires { input < length self.old.outputs.items }
         ensures rows { rows_of result ≡ (bag_at self.old.outputs.items input).rows }
         ensures left { self.new.outputs.items
-            ≡ slice_set self.old.outputs.items input (bag_with (bag_at self.old.outputs.items input).width []) }
+            ≡ slice_set self.old.outputs.items input (bag_with
+            (bag_at self.old.outputs.items input).width []) }
         ensures last { self.new.last.items ≡ self.old.last.items }
         ensures text { self.new.text ≡ self.old.text }
     {
@@ -400,7 +404,8 @@ impl<'a> Evaluation<'a> {
     fn put_back(&mut self, input: u32, rows: Rows)
         requires { input < length self.old.outputs.items }
         ensures outputs { self.new.outputs.items
-            ≡ slice_set self.old.outputs.items input (bag_with (bag_at self.old.outputs.items input).width rows) }
+            ≡ slice_set self.old.outputs.items input (bag_with
+            (bag_at self.old.outputs.items input).width rows) }
         ensures last { self.new.last.items ≡ self.old.last.items }
         ensures text { self.new.text ≡ self.old.text }
     {
@@ -429,8 +434,8 @@ impl<'a> Evaluation<'a> {
         }
     }
 
-    // Whether a later node takes the rows of the input, or the next one again among its further inputs,
-    // of which there are at most 63.
+    // Whether a later node takes the rows of the input, or the next one again, among its further
+    // inputs, of which there are at most 63.
     fn is_needed(&self, input: u32, further: &[u32]) -> bool
         ensures { result ≡ is_needed self.now input further.now }
     {

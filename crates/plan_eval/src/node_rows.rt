@@ -49,7 +49,8 @@ impl<'a> NodeRows<'a> {
     pub fn apply(self, alloc: Global, op: &'a Op) -> Result<NodeRows<'a>, NoMemory>
         requires unary { IsTrue (is_unary op.now) }
         requires columns { FindsColumns op.now (rows_of self) }
-        ensures { IfOk result (λ rows. SameBag (rows_of rows) (applied op.now (rows_of self.entry))) }
+        ensures { IfOk result (λ rows. SameBag (rows_of rows) (applied op.now
+            (rows_of self.entry))) }
     {
         match self {
             NodeRows::Materialized(rows) => {
@@ -70,7 +71,7 @@ impl<'a> NodeRows<'a> {
         }
     }
 
-    /// The join of the rows with a right side. A pipeline goes on, where the right side may be repeated.
+    /// The join of the rows with a right side. A pipeline goes on where the right side may be repeated.
     pub fn join(
         self,
         alloc: Global,
@@ -87,6 +88,7 @@ impl<'a> NodeRows<'a> {
         }
     }
 
+    // The join with a build side that may be repeated.
     fn probe(self, alloc: Global, rule: JoinRule<'a>, right: Rows) -> Result<NodeRows<'a>, NoMemory>
         requires { IsTrue (repeats_right rule.kind) }
         ensures { IfOk result (λ rows. SameBag (rows_of rows)
@@ -104,6 +106,7 @@ impl<'a> NodeRows<'a> {
         }
     }
 
+    // The join of two sides in memory.
     fn join_in_memory(
         self,
         alloc: Global,

@@ -20,7 +20,8 @@ pub fn files_in_turn<'c>(
     alloc: Global,
     tables: &'c [Scan<'c>],
 ) -> Result<Vec<FileBatch<'c>>, NoMemory>
-    ensures { IfOk result (λ files. flat_map batch_rows files.items ≡ flat_map scan_rows tables.now) }
+    ensures { IfOk result (λ files. flat_map batch_rows files.items
+        ≡ flat_map scan_rows tables.now) }
 {
     let mut files = Vec::new(alloc);
     for table in tables {
@@ -30,7 +31,8 @@ pub fn files_in_turn<'c>(
 }
 
 fn push_files<'c>(table: &'c Scan<'c>, files: &mut Vec<FileBatch<'c>>) -> Result<(), NoMemory>
-    ensures { OnOk result (flat_map batch_rows files.new.items ≡ flat_map batch_rows files.old.items ++ scan_rows table.now) }
+    ensures { OnOk result (flat_map batch_rows files.new.items
+        ≡ flat_map batch_rows files.old.items ++ scan_rows table.now) }
 {
     for bytes in table.files {
         let kinds = &table.kinds;

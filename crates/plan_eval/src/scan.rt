@@ -26,7 +26,8 @@ impl<'a> Scan<'a> {
         table: &Bytes,
         columns: &Schema,
     ) -> Result<Self, NoMemory>
-        ensures { IfOk result (λ scan. scan_rows scan ≡ flat_map (table_rows (map (λ column. column.kind) columns.now)) (files_of tables.now table.now)) }
+        ensures { IfOk result (λ scan. scan_rows scan ≡ flat_map (table_rows (map
+            (λ column. column.kind) columns.now)) (files_of tables.now table.now)) }
     {
         let kinds = Kinds::from_vec(kinds_of(alloc, columns.as_slice())?);
         match files_in(tables.as_slice(), table) {

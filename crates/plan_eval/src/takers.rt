@@ -21,7 +21,8 @@ pub fn last_takers(alloc: Global, nodes: &[Node]) -> Result<Vec<usize>, NoMemory
 fn mark(last: &mut Vec<usize>, inputs: &[u32], place: usize)
     ensures long { length last.new.items ≡ length last.old.items }
     ensures raised { (other : ℕ) → get_or last.old.items other 0 ≤ get_or last.new.items other 0 }
-    ensures marked { All (λ input. input < length last.old.items → place ≤ get_or last.new.items input 0) inputs.now }
+    ensures marked { All (λ input. input < length last.old.items
+        → place ≤ get_or last.new.items input 0) inputs.now }
 {
     for input in inputs {
         raise(last, *input as usize, place);

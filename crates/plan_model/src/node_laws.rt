@@ -31,22 +31,30 @@ pub fn widths_stand_on_inputs()
         ≡ widths_of before ++ width_of node.op (widths_into before node) ∷ [] }
     ensures width { (nodes : List OneNode) (place : ℕ) (node : OneNode) → plan_faults nodes ≡ []
         → slice_get nodes place ≡ Some node
-        → get_or (widths_of nodes) place 0 ≡ width_of node.op (input_widths (widths_of nodes) node.inputs) }
-    ensures narrow { (nodes : List OneNode) → plan_faults nodes ≡ [] → All (λ width. width ≤ 256) (widths_of nodes) }
+        → get_or (widths_of nodes) place 0 ≡ width_of node.op (input_widths
+        (widths_of nodes) node.inputs) }
+    ensures narrow { (nodes : List OneNode) → plan_faults nodes ≡ []
+        → All (λ width. width ≤ 256) (widths_of nodes) }
 {}
 
 /// Each node has a bag, of the node's width. In a plan without a fault it is what the node's operator
 /// gives on the bags of its inputs, with which nothing is wrong.
 pub fn bags_stand_on_inputs()
-    ensures long { (files : List ℕ → List (List ℕ)) (nodes : List OneNode) → length (bags_of files nodes) ≡ length nodes }
-    ensures widths { (files : List ℕ → List (List ℕ)) (nodes : List OneNode) → bag_widths (bags_of files nodes) ≡ widths_of nodes }
+    ensures long { (files : List ℕ → List (List ℕ)) (nodes : List OneNode)
+        → length (bags_of files nodes) ≡ length nodes }
+    ensures widths { (files : List ℕ → List (List ℕ)) (nodes : List OneNode)
+        → bag_widths (bags_of files nodes) ≡ widths_of nodes }
     ensures next { (files : List ℕ → List (List ℕ)) (before : List OneNode) (node : OneNode)
         → bags_of files (before ++ node ∷ [])
-        ≡ bags_of files before ++ bag_of files node.op (map (bag_at (bags_of files before)) node.inputs) ∷ [] }
-    ensures bag { (files : List ℕ → List (List ℕ)) (nodes : List OneNode) (place : ℕ) (node : OneNode)
+        ≡ bags_of files before ++ bag_of files node.op (map (bag_at
+        (bags_of files before)) node.inputs) ∷ [] }
+    ensures bag { (files : List ℕ → List (List ℕ)) (nodes : List OneNode) (place : ℕ)
+        (node : OneNode)
         → plan_faults nodes ≡ [] → slice_get nodes place ≡ Some node
-        → bag_at (bags_of files nodes) place ≡ bag_of files node.op (map (bag_at (bags_of files nodes)) node.inputs) }
-    ensures good { (files : List ℕ → List (List ℕ)) (nodes : List OneNode) (place : ℕ) (node : OneNode)
+        → bag_at (bags_of files nodes) place ≡ bag_of files node.op (map (bag_at
+        (bags_of files nodes)) node.inputs) }
+    ensures good { (files : List ℕ → List (List ℕ)) (nodes : List OneNode) (place : ℕ)
+        (node : OneNode)
         → plan_faults nodes ≡ [] → slice_get nodes place ≡ Some node
         → IsGood node.op (map (bag_at (bags_of files nodes)) node.inputs) }
 {}
@@ -56,7 +64,8 @@ pub fn bags_stand_on_inputs()
 pub fn rows_have_widths()
     ensures width { (files : List ℕ → List (List ℕ)) (op : OneOp) (inputs : List Bag)
         → (bag_of files op inputs).width ≡ width_of op (bag_widths inputs) }
-    ensures rows { (files : List ℕ → List (List ℕ)) (op : OneOp) (inputs : List Bag) → IsGood op inputs
+    ensures rows { (files : List ℕ → List (List ℕ)) (op : OneOp) (inputs : List Bag)
+        → IsGood op inputs
         → HasItsWidth (bag_of files op inputs) }
     ensures all { (files : List ℕ → List (List ℕ)) (nodes : List OneNode) → plan_faults nodes ≡ []
         → All HasItsWidth (bags_of files nodes) }
