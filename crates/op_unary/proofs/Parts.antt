@@ -4,8 +4,7 @@ use Rattle.std.specs.Prelude.{cond, not, filter}
 use Rattle.row_core.specs.Bags.{SameBag, count_of, one_of_each}
 use Rattle.row_core.specs.Values.{same_row}
 use Rattle.bag_laws.specs.Rows.{OneRow as Row}
-use Rattle.bag_laws.proofs.Laws.{same_refl}
-use Rattle.bag_laws.proofs.Laws.{count-append, count-one_of_each, total-same, SameBag-append, SameBag-one_of_each}
+use Rattle.bag_laws.proofs.Laws.{count-one_of_each, total-same}
 use Rattle.bag_laws.proofs.Laws.{total}
 
 -- one of each of one of each is that

@@ -13,7 +13,8 @@ use Rattle.op_unary.specs.declared.accumulator.Accumulator.TheVariants.{Counted,
 abbrev pub accumulator_of : List (List Value) → Agg → Accumulator
 accumulator_of rows Count = Counted (length rows)
 accumulator_of rows (Sum column) =
-    let numbers = numbers_of (column_of column rows) in Summed (nat_lt 0 (length numbers)) (whole_sum numbers)
+    let numbers = numbers_of (column_of column rows) in
+    Summed (nat_lt 0 (length numbers)) (whole_sum numbers)
 accumulator_of rows (Min column) = Least (least (column_of column rows))
 accumulator_of rows (Max column) = Greatest (greatest (column_of column rows))
 

@@ -9,7 +9,8 @@ use Rattle.op_unary.specs.Accumulators.{accumulator_of}
 use Rattle.op_unary.specs.declared.group.Group.{Group}
 
 -- the group is that of these rows, some of one key
-pub record IsGroupOf (keys : List ℕ) (aggs : List Agg) (group : Group) (rows : List Row) : Type 0 where
+pub record IsGroupOf (keys : List ℕ) (aggs : List Agg) (group : Group) (rows : List Row)
+    : Type 0 where
   pub some : 0 < length rows
   pub one_key : All (λ row. key_of keys row ≡ group.key) rows
   pub accumulators : group.accumulators.items ≡ map (accumulator_of rows) aggs
