@@ -1,5 +1,5 @@
 -- What the answers to a commit say.
-use Rattle.std.specs.Prelude.{◌≡◌, ◌≢◌, ◌⊎◌, ⊤, ℕ, List, [], ◌∷◌, ◌++◌, Option, Some, None, Result, Ok, Err, IsErrOf}
+use Rattle.std.specs.Prelude.{◌≡◌, ◌≢◌, ◌⊎◌, ⊤, List, [], ◌∷◌, ◌++◌, Option, Some, None, Result, Ok, Err, IsErrOf}
 use Rattle.estate.specs.Holding.{Holding, job_under}
 use Rattle.estate.specs.Changes.{Same, Step}
 use Rattle.estate.specs.World.{World}
