@@ -29,12 +29,12 @@ map-where : (P : Row → Type 0) (f g : Row → Row) (xs : List Row) → ((x : R
 map-where P f g [] each all = refl
 map-where P f g (x ∷ xs) each all = λ i. each x (All-head P x xs all) i ∷ map-where P f g xs each (All-tail P x xs all) i
 
-module _ (key_of : Row → Row) (told : Row → List Row → Row) (respects : (key : Row) (xs ys : List Row) → SameBag xs ys → told key xs ≡ told key ys) where
+module _ (key_of : Row → Row) (row_for : Row → List Row → Row) (respects : (key : Row) (xs ys : List Row) → SameBag xs ys → row_for key xs ≡ row_for key ys) where
   abbrev group : Row → List Row → List Row
   group key rows = filter (λ row. same_row (key_of row) key) rows
 
   abbrev row_of : List Row → Row → Row
-  row_of rows key = told key (group key rows)
+  row_of rows key = row_for key (group key rows)
 
   -- no row of the list has the key
   abbrev Lacks : List Row → Row → Type 0
@@ -47,17 +47,17 @@ module _ (key_of : Row → Row) (told : Row → List Row → Row) (respects : (k
       ∙ group-none key xs (All-tail (λ row. same_row (key_of row) key ≡ false) x xs none)
 
   group-left : (xs ys : List Row) (key : Row) → Lacks ys key → row_of (xs ++ ys) key ≡ row_of xs key
-  group-left xs ys key none = ap (told key)
+  group-left xs ys key none = ap (row_for key)
       (filter-append (λ row. same_row (key_of row) key) xs ys ∙ ap (λ (l : List Row). group key xs ++ l) (group-none key ys none) ∙ append-nil (group key xs))
 
   group-right : (xs ys : List Row) (key : Row) → Lacks xs key → row_of (xs ++ ys) key ≡ row_of ys key
-  group-right xs ys key none = ap (told key)
+  group-right xs ys key none = ap (row_for key)
       (filter-append (λ row. same_row (key_of row) key) xs ys ∙ ap (λ (l : List Row). l ++ group key ys) (group-none key xs none))
 
   abbrev keys : List Row → List Row
   keys rows = one_of_each (map key_of rows)
 
-  grouped-same : (xs ys : List Row) → SameBag xs ys → SameBag (grouped key_of told xs) (grouped key_of told ys)
+  grouped-same : (xs ys : List Row) → SameBag xs ys → SameBag (grouped key_of row_for xs) (grouped key_of row_for ys)
   grouped-same xs ys same =
       subst (λ (l : List Row). SameBag l (map (row_of ys) (keys ys)))
       (map-where (λ key. row_of ys key ≡ row_of xs key) (row_of ys) (row_of xs) (keys xs) (λ key e. e)
@@ -79,7 +79,7 @@ module _ (key_of : Row → Row) (told : Row → List Row → Row) (respects : (k
   lacks_right : (xs ys : List Row) → AreApart meets xs ys → All (Lacks xs) (map key_of ys)
   lacks_right xs ys apart = All-map (Lacks xs) key_of ys (λ j e less k d lt. apart k d lt j e less)
 
-  grouped-splits : (xs ys : List Row) → AreApart meets xs ys → grouped key_of told (xs ++ ys) ≡ grouped key_of told xs ++ grouped key_of told ys
+  grouped-splits : (xs ys : List Row) → AreApart meets xs ys → grouped key_of row_for (xs ++ ys) ≡ grouped key_of row_for xs ++ grouped key_of row_for ys
   grouped-splits xs ys apart =
       ap (λ (l : List Row). map (row_of (xs ++ ys)) (one_of_each l)) (map-append key_of xs ys)
       ∙ ap (map (row_of (xs ++ ys))) (one_of_each-append (map key_of xs) (map key_of ys) (apart_from (map key_of xs) (map key_of ys) (keys_apart xs ys apart)))
@@ -88,9 +88,9 @@ module _ (key_of : Row → Row) (told : Row → List Row → Row) (respects : (k
       map-where (Lacks ys) (row_of (xs ++ ys)) (row_of xs) (keys xs) (group-left xs ys) (All-one_of_each (Lacks ys) (map key_of xs) (lacks_left xs ys apart)) i
       ++ map-where (Lacks xs) (row_of (xs ++ ys)) (row_of ys) (keys ys) (group-right xs ys) (All-one_of_each (Lacks xs) (map key_of ys) (lacks_right xs ys apart)) i)
 
-  pub grouped_keyed : IsKeyed (λ a b. same_row (key_of a) (key_of b)) (grouped key_of told)
+  pub grouped_keyed : IsKeyed (λ a b. same_row (key_of a) (key_of b)) (grouped key_of row_for)
   grouped_keyed = record {
     none = refl;
     same = grouped-same;
-    splits = λ xs ys apart. same_lists (grouped key_of told (xs ++ ys)) (grouped key_of told xs ++ grouped key_of told ys) (grouped-splits xs ys apart);
+    splits = λ xs ys apart. same_lists (grouped key_of row_for (xs ++ ys)) (grouped key_of row_for xs ++ grouped key_of row_for ys) (grouped-splits xs ys apart);
   }

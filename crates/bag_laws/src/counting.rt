@@ -21,5 +21,6 @@ fn count_in(row: &Row, rows: &[Row]) -> usize
 
 /// Counts of a concatenation add.
 pub fn counts_add()
-    ensures { (row : OneRow) (rows others : List OneRow) → times_in row (rows ++ others) ≡ times_in row rows + times_in row others }
+    ensures { (row : OneRow) (rows others : List OneRow)
+        → times_in row (rows ++ others) ≡ times_in row rows + times_in row others }
 {}

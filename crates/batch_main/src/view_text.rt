@@ -24,7 +24,7 @@ pub fn view_text<I: Inputs>(alloc: Global, view: View, inputs: &mut I) -> Result
     let job = accept(alloc, &text)?;
     match view {
         View::Check => Ok(check_text(alloc, &job.plan)?),
-        View::Plan => Ok(plan_text(alloc, &job.plan, &job.settings)?),
+        View::Plan => Ok(plan_text(alloc, &job.plan)?),
         View::Reference => {
             let tables = list_tables(alloc, inputs, &job.plan)?;
             text_over(alloc, inputs, &job.plan, tables)

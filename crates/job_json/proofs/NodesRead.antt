@@ -7,7 +7,7 @@ use Rattle.serde_json.specs.Find.{get, as_number, as_object, as_u64}
 use Rattle.plan_model.specs.Settings.{setting_named, is_within, with_value, default_values, AreInRange}
 use Rattle.plan_model.specs.declared.node.Node.{Node}
 use Rattle.plan_model.specs.declared.setting_values.SettingValues.{SettingValues}
-use Rattle.plan_model.proofs.SettingRanges.{in_range_with}
+use Rattle.plan_model.proofs.Laws.{in_range_with, defaults_in_range}
 use Rattle.job_json.specs.Faults.{or_fault, check}
 use Rattle.job_json.specs.Jobs.{with_setting, settings_from, settings_in, settings_of, job_of}
 use Rattle.job_json.specs.Members.{name_of, number_of, list_of, known_alone}
@@ -158,24 +158,6 @@ settings_read : (v : SettingValues) (ms : Members) (w : SettingValues) → AreIn
 settings_read v no_members w h e = subst AreInRange (same_Ok v w e) h
 settings_read v (member name d ms) w h e =
     read_then (with_setting v name d) _ w e (λ x x_is e1. settings_read x ms w (setting_read v name d x h x_is) e1)
-
-defaults_in_range : AreInRange default_values
-defaults_in_range = record {
-  attempts = (lit≤ tt, lit≤ tt);
-  block_ms = (lit≤ tt, lit≤ tt);
-  broadcast_bytes = (lit≤ tt, lit≤ tt);
-  flush_every = (lit≤ tt, lit≤ tt);
-  max_parallelism = (lit≤ tt, lit≤ tt);
-  min_parallelism = (lit≤ tt, lit≤ tt);
-  restart_limit = (lit≤ tt, lit≤ tt);
-  skew_bytes = (lit≤ tt, lit≤ tt);
-  skew_percent = (lit≤ tt, lit≤ tt);
-  slots_per_worker = (lit≤ tt, lit≤ tt);
-  slow_lower_ms = (lit≤ tt, lit≤ tt);
-  slow_percent = (lit≤ tt, lit≤ tt);
-  slow_ratio = (lit≤ tt, lit≤ tt);
-  target_bytes = (lit≤ tt, lit≤ tt);
-}
 
 given_settings : (o : Option Data) (w : SettingValues) → settings_in o ≡ Ok w → AreInRange w
 given_settings None w e = subst AreInRange (same_Ok default_values w e) defaults_in_range

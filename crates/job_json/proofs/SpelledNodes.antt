@@ -2,7 +2,8 @@
 use Rattle.std.proofs.Common.{◌≡◌, ℕ, suc, ◌≤◌, nat_le, Bool, true, false, ◌&&◌, IsTrue, All, List, [], ◌∷◌, length, map, codes, Some, None, Ok, refl, arith}
 use Rattle.serde_json.specs.Data.{Data, string, object, Members}
 use Rattle.serde_json.specs.Find.{get}
-use Rattle.plan_model.specs.Settings.{settings, setting_name, setting_named, is_within, value_of, with_value, IsBetween, AreInRange, default_values}
+use Rattle.plan_model.proofs.Laws.{is_within_range}
+use Rattle.plan_model.specs.Settings.{settings, setting_name, setting_named, is_within, value_of, with_value, AreInRange, default_values}
 use Rattle.plan_model.specs.declared.setting.Setting.{Setting}
 use Rattle.plan_model.specs.declared.setting.Setting.TheVariants.{Attempts, BlockMs, BroadcastBytes, FlushEvery, MaxParallelism, MinParallelism, RestartLimit, SkewBytes, SkewPercent, SlotsPerWorker, SlowLowerMs, SlowPercent, SlowRatio, TargetBytes}
 use Rattle.plan_model.specs.declared.node.Node.{Node}
@@ -118,9 +119,6 @@ nodes_again k (node ∷ nodes) h =
 
 -- ---- settings
 
-within : (low high n : ℕ) → IsBetween low high n → (nat_le low n && nat_le n high) ≡ true
-within low high n h = both_true (nat_le low n) (nat_le n high) (le_test low n h.0) (le_test n high h.1)
-
 named_again : (s : Setting) → setting_named (setting_name s) ≡ Some s
 named_again Attempts = refl
 named_again BlockMs = refl
@@ -160,50 +158,8 @@ changed_again v so_far (s ∷ ss) h = rw (with_again so_far s (value_of v s) h.0
 
 settings_again : (v : SettingValues) → AreInRange v → settings_from default_values (members_from (map (setting_member v) settings)) ≡ Ok v
 settings_again v h =
-    let low : IsBetween 1 128 v.max_parallelism = (omega (arith, h.min_parallelism.0, h.min_parallelism.1, h.max_parallelism.0), h.max_parallelism.1) in
-    changed_again v default_values settings (
-      within 1 4 v.attempts h.attempts,
-      (
-        within 0 86400000 v.block_ms h.block_ms,
-        (
-          within 0 1073741824 v.broadcast_bytes h.broadcast_bytes,
-          (
-            within 1 1024 v.flush_every h.flush_every,
-            (
-              within 1 128 v.max_parallelism low,
-              (
-                within 1 v.max_parallelism v.min_parallelism h.min_parallelism,
-                (
-                  within 0 100 v.restart_limit h.restart_limit,
-                  (
-                    within 0 1073741824 v.skew_bytes h.skew_bytes,
-                    (
-                      within 100 10000 v.skew_percent h.skew_percent,
-                      (
-                        within 1 8 v.slots_per_worker h.slots_per_worker,
-                        (
-                          within 0 86400000 v.slow_lower_ms h.slow_lower_ms,
-                          (
-                            within 100 10000 v.slow_percent h.slow_percent,
-                            (
-                              within 1 100 v.slow_ratio h.slow_ratio,
-                              (
-                                within 1 1073741824 v.target_bytes h.target_bytes,
-                                tt,
-                              ),
-                            ),
-                          ),
-                        ),
-                      ),
-                    ),
-                  ),
-                ),
-              ),
-            ),
-          ),
-        ),
-      ),
-    )
+    let low : 1 ≤ v.max_parallelism = omega (arith, (h MinParallelism).0, (h MaxParallelism).0) in
+    changed_again v default_values settings (is_within_range v Attempts v.attempts (h Attempts), (is_within_range v BlockMs v.block_ms (h BlockMs), (is_within_range v BroadcastBytes v.broadcast_bytes (h BroadcastBytes), (is_within_range v FlushEvery v.flush_every (h FlushEvery), (is_within_range (after v default_values (Attempts ∷ BlockMs ∷ BroadcastBytes ∷ FlushEvery ∷ [])) MaxParallelism v.max_parallelism (low, (h MaxParallelism).1), (is_within_range v MinParallelism v.min_parallelism (h MinParallelism), (is_within_range v RestartLimit v.restart_limit (h RestartLimit), (is_within_range v SkewBytes v.skew_bytes (h SkewBytes), (is_within_range v SkewPercent v.skew_percent (h SkewPercent), (is_within_range v SlotsPerWorker v.slots_per_worker (h SlotsPerWorker), (is_within_range v SlowLowerMs v.slow_lower_ms (h SlowLowerMs), (is_within_range v SlowPercent v.slow_percent (h SlowPercent), (is_within_range v SlowRatio v.slow_ratio (h SlowRatio), (is_within_range v TargetBytes v.target_bytes (h TargetBytes), tt))))))))))))))
 
 -- ---- jobs
 

@@ -1,18 +1,19 @@
 -- Rows match where no value of the key is Null and their keys are one row.
 use Rattle.std.proofs.Common.{◌≡◌, ℕ, Bool, true, false, List, [], ◌∷◌, get_or, refl, sym, ◌∙◌, ap}
-use Rattle.std.specs.List.{list_any}
 use Rattle.std.specs.Ordering.{is_eq, ordering_then, ordering_reverse}
 use Rattle.std.specs.Prelude.{not, ◌&&◌, ◌||◌}
 use Rattle.std.specs.declared.cmp.Ordering.{Ordering}
 use Rattle.std.specs.declared.cmp.Ordering.TheVariants.{Less, Equal, Greater}
 use Rattle.row_core.specs.Exprs.{is_null}
+use Rattle.row_core.specs.Hashing.{key_of}
 use Rattle.row_core.specs.Values.{value_cmp, row_cmp, same_row, same_value}
 use Rattle.row_core.specs.declared.value.Value.{Value}
 use Rattle.row_core.specs.declared.value.Value.TheVariants.{Null, Int, Text}
-use Rattle.bag_laws.proofs.Orders.{value_total}
+use Rattle.bag_laws.proofs.Laws.{value_total}
 use Rattle.bag_laws.specs.Rows.{OneRow as Row}
 use Rattle.plan_model.specs.Joins.{matches, meets}
-use Rattle.op_join.specs.Sides.{own_key, other_key, turned}
+use Rattle.op_join.specs.Keys.{has_null, keys_match}
+use Rattle.operator_laws.specs.Applied.{left_columns, right_columns}
 
 same_cons : (a b : Value) (xs ys : List Value) → same_row (a ∷ xs) (b ∷ ys) ≡ (same_value a b && same_row xs ys)
 same_cons a b xs ys = by (value_cmp a b) (row_cmp xs ys)
@@ -28,14 +29,16 @@ regroup false true m s = refl
 regroup false false true s = refl
 regroup false false false s = refl
 
-pub matches_is : (keys : List (ℕ × ℕ)) (row other : Row) → matches keys row other ≡ (not (list_any is_null (own_key keys row)) && same_row (own_key keys row) (other_key keys other))
-matches_is [] row other = refl
-matches_is (pair ∷ keys) row other =
+pub left_matches : (keys : List (ℕ × ℕ)) (row other : Row) → keys_match (left_columns keys) (right_columns keys) row other ≡ matches keys row other
+left_matches [] row other = refl
+left_matches (pair ∷ keys) row other =
     let a = get_or row pair.0 Null in
     let b = get_or other pair.1 Null in
-    ap (λ (rest : Bool). meets a b && rest) (matches_is keys row other)
-    ∙ regroup (is_null a) (same_value a b) (list_any is_null (own_key keys row)) (same_row (own_key keys row) (other_key keys other))
-    ∙ ap (λ (same : Bool). not (is_null a || list_any is_null (own_key keys row)) && same) (sym (same_cons a b (own_key keys row) (other_key keys other)))
+    let k = key_of (left_columns keys) row in
+    let m = key_of (right_columns keys) other in
+    ap (λ (same : Bool). not (is_null a || has_null (left_columns keys) row) && same) (same_cons a b k m)
+    ∙ sym (regroup (is_null a) (same_value a b) (has_null (left_columns keys) row) (same_row k m))
+    ∙ ap (λ (rest : Bool). meets a b && rest) (left_matches keys row other)
 
 -- ---- the other way round
 
@@ -58,7 +61,13 @@ meets_swapped (Int m) (Text t) = same_swapped (Int m) (Text t)
 meets_swapped (Text s) (Int n) = same_swapped (Text s) (Int n)
 meets_swapped (Text s) (Text t) = same_swapped (Text s) (Text t)
 
-pub matches_turned : (keys : List (ℕ × ℕ)) (row other : Row) → matches (turned keys) row other ≡ matches keys other row
-matches_turned [] row other = refl
-matches_turned (pair ∷ keys) row other =
-    λ i. meets_swapped (get_or row pair.1 Null) (get_or other pair.0 Null) i && matches_turned keys row other i
+pub right_matches : (keys : List (ℕ × ℕ)) (row other : Row) → keys_match (right_columns keys) (left_columns keys) row other ≡ matches keys other row
+right_matches [] row other = refl
+right_matches (pair ∷ keys) row other =
+    let a = get_or row pair.1 Null in
+    let b = get_or other pair.0 Null in
+    let k = key_of (right_columns keys) row in
+    let m = key_of (left_columns keys) other in
+    ap (λ (same : Bool). not (is_null a || has_null (right_columns keys) row) && same) (same_cons a b k m)
+    ∙ sym (regroup (is_null a) (same_value a b) (has_null (right_columns keys) row) (same_row k m))
+    ∙ (λ i. meets_swapped a b i && right_matches keys row other i)

@@ -1,4 +1,5 @@
-pub mod Alike
-pub mod Arms
-pub mod Ranges
-pub mod Kept
+mod Alike
+mod Arms
+mod Emitted
+mod Kept
+mod Ranges

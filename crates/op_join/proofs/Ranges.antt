@@ -3,18 +3,16 @@ use Rattle.std.proofs.Common.{◌≡◌, ℕ, ◌+◌, ◌-◌, ◌<◌, ◌≤�
 use Rattle.std.proofs.lemmas.List.{take-append-drop, append-nil, map-append, get_or-map, length-map, get_or-take, get_or-drop, length-take, length-drop, drop-map, take-map}
 use Rattle.std.proofs.lemmas.List.Elements.{filter-append, All-head, All-tail}
 use Rattle.std.proofs.lemmas.List.Sorted.{sorted_far}
-use Rattle.std.specs.List.{filter, list_any, AllWithin}
+use Rattle.std.specs.List.{filter, AllWithin}
 use Rattle.std.specs.List.Sorted.{IsSorted, IsSortedBy, IsPartitionedBy}
 use Rattle.std.specs.Prelude.{cond, not, ◌&&◌}
-use Rattle.row_core.specs.Exprs.{is_null}
+use Rattle.row_core.specs.Hashing.{key_of}
 use Rattle.row_core.specs.Values.{row_cmp, same_row}
-use Rattle.bag_laws.proofs.Counts.{same-swapped}
-use Rattle.bag_laws.proofs.Orders.{rows_strict}
-use Rattle.bag_laws.proofs.Sorted.{false_from}
+use Rattle.bag_laws.proofs.Laws.{same-swapped}
+use Rattle.bag_laws.proofs.Laws.{rows_strict}
+use Rattle.bag_laws.proofs.Laws.{false_from}
 use Rattle.bag_laws.specs.Rows.{OneRow as Row, row_less}
-use Rattle.plan_model.specs.Joins.{matches}
-use Rattle.op_join.specs.Sides.{own_key, other_key}
-use Rattle.op_join.proofs.Alike.{matches_is}
+use Rattle.op_join.specs.Keys.{has_null, keys_match}
 
 pub sorted_map : {X : Type 0} (less : X → X → Bool) {Y : Type 0} (f : Y → X) (ys : List Y) → IsSortedBy (λ a b. less (f a) (f b)) ys → IsSortedBy less (map f ys)
 sorted_map less f [] sorted k d low high = absurd (omega arith)
@@ -130,6 +128,15 @@ module _ {X : Type 0} (f : X → Row) (k : Row) (xs : List X) (sorted : IsSorted
       apart true g = absurd (g refl)
       apart false g = refl
 
+-- what holds of a front of a front holds of a front
+pub front_near : {X : Type 0} (P : X → Type 0) (m n : ℕ) (xs : List X) → n ≤ m → All P (take n (take m xs)) → All P (take n xs)
+front_near P m n xs le all i d lt =
+    let size = length-take n xs in
+    let near = length-take m xs in
+    let front = length-take n (take m xs) in
+    let below : i < n = omega arith in
+    subst P (get_or-take n (take m xs) i d below ∙ get_or-take m xs i d (omega arith) ∙ sym (get_or-take n xs i d below)) (all i d (omega arith))
+
 -- what a search says, as facts of the two parts
 pub front_part : {X : Type 0} (P : X → Type 0) (xs : List X) (n : ℕ) → n ≤ length xs → AllWithin P xs 0 n → All P (take n xs)
 front_part P xs n le within k d lt =
@@ -161,41 +168,41 @@ differ : (a b : Row) → row_less a b ≡ true → same_row a b ≡ false
 differ a b less = false_from row_less same_row rows_strict (same_row a b) (λ tie. let bad = rows_strict.tied a b tie in cc)
 
 -- what holds of the keys as they are compared holds of the rows' keys
-pub rekeyed : {X : Type 0} (now of : X → Row) (keys : List (ℕ × ℕ)) (P : Row → Type 0) (xs : List X) → All (λ x. of x ≡ other_key keys (now x)) xs
-    → All (λ x. P (of x)) xs → All (λ x. P (other_key keys (now x))) xs
-rekeyed now of keys P xs keyed all i d lt = subst P (keyed i d lt) (all i d lt)
+pub rekeyed : {X : Type 0} (now of : X → Row) (others : List ℕ) (P : Row → Type 0) (xs : List X) → All (λ x. of x ≡ key_of others (now x)) xs
+    → All (λ x. P (of x)) xs → All (λ x. P (key_of others (now x))) xs
+rekeyed now of others P xs keyed all i d lt = subst P (keyed i d lt) (all i d lt)
 
-module _ {X : Type 0} (now : X → Row) (keys : List (ℕ × ℕ)) (row : Row) (sorted : List X) (s n : ℕ) where
+module _ {X : Type 0} (now : X → Row) (columns others : List ℕ) (row : Row) (sorted : List X) (s n : ℕ) where
   abbrev k : Row
-  k = own_key keys row
+  k = key_of columns row
 
   abbrev of : X → Row
-  of other = other_key keys (now other)
+  of other = key_of others (now other)
 
   abbrev rest : List X
   rest = drop s sorted
 
-  unequal : (other : Row) → same_row k (other_key keys other) ≡ false → matches keys row other ≡ false
-  unequal other apart = matches_is keys row other ∙ by (not (list_any is_null k)) (same_row k (other_key keys other)) apart
+  unequal : (other : Row) → same_row k (key_of others other) ≡ false → keys_match columns others row other ≡ false
+  unequal other apart = by (not (has_null columns row)) (same_row k (key_of others other)) apart
     where
       by : (b c : Bool) → c ≡ false → (b && c) ≡ false
       by true c e = e
       by false c e = refl
 
-  equal : list_any is_null k ≡ false → (other : Row) → k ≡ other_key keys other → matches keys row other ≡ true
-  equal full other one = matches_is keys row other ∙ (λ i. not (full i) && same_row k (sym one i)) ∙ rows_strict.itself k
+  equal : has_null columns row ≡ false → (other : Row) → k ≡ key_of others other → keys_match columns others row other ≡ true
+  equal full other one = (λ i. not (full i) && same_row k (sym one i)) ∙ rows_strict.itself k
 
-  pub with_null : list_any is_null k ≡ true → filter (matches keys row) (map now sorted) ≡ []
-  with_null null = none_of now (matches keys row) sorted (λ i d lt.
+  pub with_null : has_null columns row ≡ true → filter (keys_match columns others row) (map now sorted) ≡ []
+  with_null null = none_of now (keys_match columns others row) sorted (λ i d lt.
       let other = get_or sorted i d in
-      matches_is keys row (now other) ∙ ap (λ (b : Bool). not b && same_row k (of other)) null)
+      ap (λ (b : Bool). not b && same_row k (of other)) null)
 
-  pub found : list_any is_null k ≡ false
+  pub found : has_null columns row ≡ false
       → All (λ other. row_less (of other) k ≡ true) (take s sorted) → All (λ other. row_less (of other) k ≡ false) (drop s sorted)
       → All (λ other. row_less k (of other) ≡ false) (take n rest) → All (λ other. row_less k (of other) ≡ true) (drop n rest)
-      → map now (take n rest) ≡ filter (matches keys row) (map now sorted)
+      → map now (take n rest) ≡ filter (keys_match columns others row) (map now sorted)
   found full less reached same greater =
-      let p = matches keys row in
+      let p = keys_match columns others row in
       let front : filter p (map now (take s sorted)) ≡ [] =
       none_of now p (take s sorted) (λ i d lt. let other = get_or (take s sorted) i d in unequal (now other) (same-swapped k (of other) ∙ differ (of other) k (less i d lt))) in
       let middle : filter p (map now (take n rest)) ≡ map now (take n rest) =

@@ -1,4 +1,7 @@
+pub mod Builds
 pub mod Cells
 pub mod Keys
+pub mod Probes
+pub mod Searches
 pub mod Sides
-pub mod Waiting
+pub mod Tables

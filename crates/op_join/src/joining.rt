@@ -1,10 +1,10 @@
-ghost use Rattle.std.specs.Prelude.{◌≡◌, ◌++◌, filter, IfOk, OnOk};
-ghost use Rattle.std.specs.List.{flat_map};
+ghost use Rattle.std.specs.Prelude.{◌≡◌, ◌++◌, IfOk};
 ghost use Rattle.row_core.specs.Bags.{SameBag};
-ghost use Rattle.plan_model.specs.Joins.{joined, matches};
-ghost use Rattle.op_join.specs.Sides.{given, turned};
+ghost use Rattle.plan_model.specs.Joins.{joined, matches, nulls};
+ghost use Rattle.op_join.specs.Sides.{outputs};
+ghost use Rattle.op_join.specs.declared.rule.Rule.TheVariants.{PaddedIfUnmatched};
 
-use crate::giving::give_all;
+use crate::probe::Probe;
 use crate::rule::{Rule, left_rule};
 use plan_model::{JoinKind, KeyPairs, Widths};
 use row_core::{NoMemory, Row, Rows};
@@ -20,77 +20,82 @@ pub fn join(
     left: &Rows,
     right: &Rows,
 ) -> Result<Rows, NoMemory>
-    ensures { IfOk result (λ given. SameBag given (joined keys.now widths.left widths.right left.now right.now kind)) }
+    ensures { IfOk result (λ given. SameBag given
+        (joined keys.now widths.left widths.right left.now right.now kind)) }
 {
     let keys = keys.as_slice();
     let left = left.as_slice();
     let right = right.as_slice();
     match kind {
         JoinKind::Inner | JoinKind::Left | JoinKind::Semi | JoinKind::Anti => {
-            give_all(alloc, left_rule(kind), widths.right, keys, left, right)
+            Probe::by_left(alloc, left_rule(kind), widths.right, keys, right)?.rows(alloc, left)
         }
-        JoinKind::Right => give_right(
-            alloc,
-            Rule::MirroredOrPadded,
-            widths.left,
-            keys,
-            left,
-            right,
-        ),
-        JoinKind::Full => give_both(alloc, widths, keys, left, right),
+        JoinKind::Right => {
+            let rule = Rule::MirroredOrPadded;
+            Probe::by_right(alloc, rule, widths.left, keys, left)?.rows(alloc, right)
+        }
+        JoinKind::Full => {
+            let unmatched = unmatched_right(alloc, widths, keys, left, right)?;
+            let rule = Rule::PairsOrPadded;
+            let rows = Probe::by_left(alloc, rule, widths.right, keys, right)?.rows(alloc, left)?;
+            append(rows, unmatched)
+        }
     }
 }
 
-/// What the right rows give.
-pub fn give_right(
+/// The rows of a join, as `join` gives them, from sides that are needed no more. The rows of the side that
+/// the others are padded for are moved into the result; those of the other side are copied.
+pub fn join_owned(
     alloc: Global,
-    rule: Rule,
-    width: u32,
-    keys: &[(u32, u32)],
-    left: &[Row],
-    right: &[Row],
+    kind: JoinKind,
+    keys: &KeyPairs,
+    widths: Widths,
+    left: Rows,
+    right: Rows,
 ) -> Result<Rows, NoMemory>
-    ensures { IfOk result (λ made. SameBag made (flat_map (λ row. given rule width row (filter (λ other. matches keys.now other row) left.now)) right.now)) }
+    ensures { IfOk result (λ given. SameBag given
+        (joined keys.now widths.left widths.right left right kind)) }
 {
-    let turned = turn(alloc, keys)?;
-    give_all(alloc, rule, width, turned.as_slice(), right, left)
+    let keys = keys.as_slice();
+    match kind {
+        JoinKind::Inner | JoinKind::Left | JoinKind::Semi | JoinKind::Anti => {
+            let others = right.as_slice();
+            let probe = Probe::by_left(alloc, left_rule(kind), widths.right, keys, others)?;
+            probe.rows_owned(alloc, left)
+        }
+        JoinKind::Right => {
+            let rule = Rule::MirroredOrPadded;
+            let probe = Probe::by_right(alloc, rule, widths.left, keys, left.as_slice())?;
+            probe.rows_owned(alloc, right)
+        }
+        JoinKind::Full => {
+            let others = right.as_slice();
+            let unmatched = unmatched_right(alloc, widths, keys, left.as_slice(), others)?;
+            let rule = Rule::PairsOrPadded;
+            let probe = Probe::by_left(alloc, rule, widths.right, keys, others)?;
+            append(probe.rows_owned(alloc, left)?, unmatched)
+        }
+    }
 }
 
-// What the left rows give, and the right rows without a match.
-fn give_both(
+// The right rows without a match, each behind Nulls.
+fn unmatched_right(
     alloc: Global,
     widths: Widths,
     keys: &[(u32, u32)],
     left: &[Row],
     right: &[Row],
 ) -> Result<Rows, NoMemory>
-    ensures { IfOk result (λ made. SameBag made
-        (flat_map (λ row. given (Rule.PairsOrPadded) widths.right row (filter (matches keys.now row) right.now)) left.now
-        ++ flat_map (λ row. given (Rule.PaddedIfUnmatched) widths.left row (filter (λ other. matches keys.now other row) left.now)) right.now)) }
+    ensures { IfOk result (λ rows. SameBag rows (outputs PaddedIfUnmatched (nulls widths.left)
+        (λ row other. matches keys.now other row) right.now left.now)) }
 {
-    let made = give_all(alloc, Rule::PairsOrPadded, widths.right, keys, left, right)?;
-    let unmatched = give_right(
-        alloc,
-        Rule::PaddedIfUnmatched,
-        widths.left,
-        keys,
-        left,
-        right,
-    )?;
-    sum(made, unmatched)
+    Probe::by_right(alloc, Rule::PaddedIfUnmatched, widths.left, keys, left)?.rows(alloc, right)
 }
 
-pub fn turn(alloc: Global, keys: &[(u32, u32)]) -> Result<Vec<(u32, u32)>, NoMemory>
-    ensures { IfOk result (λ pairs. pairs.items ≡ turned keys.now) }
+fn append(rows: Rows, more: Rows) -> Result<Rows, NoMemory>
+    ensures { IfOk result (λ all. all ≡ rows ++ more) }
 {
-    keys.iter().map(|pair| (pair.1, pair.0)).collect(alloc)
-}
-
-pub fn sum(rows: Rows, more: Rows) -> Result<Rows, NoMemory>
-    ensures { IfOk result (λ sum. sum ≡ rows ++ more) }
-{
-    let mut rows = rows.into_vec();
-    let mut more = more.into_vec();
-    rows.append(&mut more)?;
-    Ok(Rows::from_vec(rows))
+    let mut all = rows.into_vec();
+    all.append(&mut more.into_vec())?;
+    Ok(Rows::from_vec(all))
 }

@@ -1,115 +1,82 @@
-ghost use Rattle.std.specs.Prelude.{◌≡◌};
+ghost use Rattle.std.specs.Prelude.{◌≡◌, IfOk};
+ghost use Rattle.row_core.specs.Hashing.{key_of};
 ghost use Rattle.row_core.specs.Values.{row_cmp};
-ghost use Rattle.op_join.specs.Sides.{own_key, other_key};
-ghost use Rattle.op_join.specs.Keys.{own_key_of, other_key_of};
+ghost use Rattle.operator_laws.specs.Applied.{left_columns, right_columns};
+ghost use Rattle.op_join.specs.Keys.{compared_key, has_null};
 
-use crate::cells::{cell, cmp_cells};
-use crate::lead::{Lead, cmp_leads, lead_of};
-use row_core::Row;
+use crate::cells::{cell, cmp_cells, lacks};
+use crate::key_prefix::{KeyPrefix, cmp_prefixes, prefix_of};
+use row_core::{NoMemory, Row};
+use std::alloc::Global;
 use std::cmp::Ordering;
 
 /// A row with the first value of its key beside it, which most comparisons look at alone.
 #[derive(Clone, Copy, Drop)]
 pub struct Keyed<'a> {
-    pub lead: Lead<'a>,
+    pub prefix: KeyPrefix<'a>,
     pub row: &'a Row,
 }
 
-/// A row of the one side with its key's first value. Where the key is of no columns, Null stands there.
-pub fn own_keyed<'a>(keys: &[(u32, u32)], row: &'a Row) -> Keyed<'a>
+/// The columns of the key pairs on the left.
+pub fn left_columns(alloc: Global, keys: &[(u32, u32)]) -> Result<Vec<u32>, NoMemory>
+    ensures { IfOk result (λ columns. columns.items ≡ left_columns keys.now) }
+{
+    keys.iter().map(|pair| pair.0).collect(alloc)
+}
+
+/// The columns of the key pairs on the right.
+pub fn right_columns(alloc: Global, keys: &[(u32, u32)]) -> Result<Vec<u32>, NoMemory>
+    ensures { IfOk result (λ columns. columns.items ≡ right_columns keys.now) }
+{
+    keys.iter().map(|pair| pair.1).collect(alloc)
+}
+
+/// A row with the first value of its key in these columns, Null in a key of none.
+pub fn with_prefix<'a>(columns: &[u32], row: &'a Row) -> Keyed<'a>
     ensures row { result.row.now ≡ row.now }
-    ensures key { own_key_of keys.now result ≡ own_key keys.now row.now }
+    ensures key { compared_key columns.now result ≡ key_of columns.now row.now }
 {
-    let lead = match keys.first() {
-        None => Lead::Null,
-        Some(pair) => lead_of(cell(row, pair.0)),
+    let prefix = match columns.first() {
+        None => KeyPrefix::Null,
+        Some(column) => prefix_of(cell(row, *column)),
     };
-    Keyed { lead, row }
+    Keyed { prefix, row }
 }
 
-/// A row of the other side with its key's first value.
-pub fn other_keyed<'a>(keys: &[(u32, u32)], row: &'a Row) -> Keyed<'a>
-    ensures row { result.row.now ≡ row.now }
-    ensures key { other_key_of keys.now result ≡ other_key keys.now row.now }
+/// The order of two rows by their keys, each in its columns.
+pub fn cmp_keyed(columns: &[u32], a: &Keyed, others: &[u32], b: &Keyed) -> Ordering
+    ensures { result ≡ row_cmp (compared_key columns.now a.now) (compared_key others.now b.now) }
 {
-    let lead = match keys.first() {
-        None => Lead::Null,
-        Some(pair) => lead_of(cell(row, pair.1)),
-    };
-    Keyed { lead, row }
-}
-
-/// The order of two rows of the other side by their keys.
-pub fn cmp_others(keys: &[(u32, u32)], a: &Keyed, b: &Keyed) -> Ordering
-    ensures { result ≡ row_cmp (other_key_of keys.now a.now) (other_key_of keys.now b.now) }
-{
-    match keys.split_first() {
-        None => Ordering::Equal,
-        Some((_, rest)) => match cmp_leads(a.lead, b.lead) {
-            Ordering::Equal => cmp_other_rest(rest, a.row, b.row),
+    match (columns.split_first(), others.split_first()) {
+        (None, None) => Ordering::Equal,
+        (None, Some(_)) => Ordering::Less,
+        (Some(_), None) => Ordering::Greater,
+        (Some((_, columns)), Some((_, others))) => match cmp_prefixes(a.prefix, b.prefix) {
+            Ordering::Equal => cmp_keys(columns, a.row, others, b.row),
             unequal => unequal,
         },
     }
 }
 
-/// The order of a row of the other side and one of the one side by their keys.
-pub fn cmp_to(keys: &[(u32, u32)], other: &Keyed, row: &Keyed) -> Ordering
-    ensures { result ≡ row_cmp (other_key_of keys.now other.now) (own_key_of keys.now row.now) }
+fn cmp_keys(columns: &[u32], a: &Row, others: &[u32], b: &Row) -> Ordering
+    ensures { result ≡ row_cmp (key_of columns.now a.now) (key_of others.now b.now) }
 {
-    match keys.split_first() {
-        None => Ordering::Equal,
-        Some((_, rest)) => match cmp_leads(other.lead, row.lead) {
-            Ordering::Equal => cmp_rest_to(rest, other.row, row.row),
-            unequal => unequal,
-        },
+    match (columns.split_first(), others.split_first()) {
+        (None, None) => Ordering::Equal,
+        (None, Some(_)) => Ordering::Less,
+        (Some(_), None) => Ordering::Greater,
+        (Some((x, columns)), Some((y, others))) => {
+            match cmp_cells(cell(a, *x), cell(b, *y)) {
+                Ordering::Equal => cmp_keys(columns, a, others, b),
+                unequal => unequal,
+            }
+        }
     }
 }
 
-/// The order of a row of the one side and one of the other side by their keys.
-pub fn cmp_from(keys: &[(u32, u32)], row: &Keyed, other: &Keyed) -> Ordering
-    ensures { result ≡ row_cmp (own_key_of keys.now row.now) (other_key_of keys.now other.now) }
+/// Whether a value of the row's key is Null, so that nothing matches it.
+pub fn has_null(columns: &[u32], row: &Row) -> bool
+    ensures { result ≡ has_null columns.now row.now }
 {
-    match keys.split_first() {
-        None => Ordering::Equal,
-        Some((_, rest)) => match cmp_leads(row.lead, other.lead) {
-            Ordering::Equal => cmp_rest_from(rest, row.row, other.row),
-            unequal => unequal,
-        },
-    }
-}
-
-fn cmp_other_rest(keys: &[(u32, u32)], a: &Row, b: &Row) -> Ordering
-    ensures { result ≡ row_cmp (other_key keys.now a.now) (other_key keys.now b.now) }
-{
-    match keys.split_first() {
-        None => Ordering::Equal,
-        Some((pair, rest)) => match cmp_cells(cell(a, pair.1), cell(b, pair.1)) {
-            Ordering::Equal => cmp_other_rest(rest, a, b),
-            unequal => unequal,
-        },
-    }
-}
-
-fn cmp_rest_to(keys: &[(u32, u32)], other: &Row, row: &Row) -> Ordering
-    ensures { result ≡ row_cmp (other_key keys.now other.now) (own_key keys.now row.now) }
-{
-    match keys.split_first() {
-        None => Ordering::Equal,
-        Some((pair, rest)) => match cmp_cells(cell(other, pair.1), cell(row, pair.0)) {
-            Ordering::Equal => cmp_rest_to(rest, other, row),
-            unequal => unequal,
-        },
-    }
-}
-
-fn cmp_rest_from(keys: &[(u32, u32)], row: &Row, other: &Row) -> Ordering
-    ensures { result ≡ row_cmp (own_key keys.now row.now) (other_key keys.now other.now) }
-{
-    match keys.split_first() {
-        None => Ordering::Equal,
-        Some((pair, rest)) => match cmp_cells(cell(row, pair.0), cell(other, pair.1)) {
-            Ordering::Equal => cmp_rest_from(rest, row, other),
-            unequal => unequal,
-        },
-    }
+    columns.iter().any(|column| lacks(cell(row, *column)))
 }

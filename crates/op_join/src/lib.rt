@@ -2,21 +2,20 @@
 //! gives. Rows come in no promised order.
 #![tactic(auto)]
 
+mod build_side;
 mod cells;
-mod giving;
+mod emitting;
 mod joining;
+mod key_prefix;
 mod keyed;
-mod laws;
-mod lead;
-mod matching;
-mod moving;
-mod owned;
-mod right_side;
+mod probe;
+mod probe_row;
+mod row_parts;
 mod rule;
+mod searching;
+mod sorted_side;
 #[cfg(test)]
 mod tests;
 
-pub use joining::join;
-pub use laws::{bags_are_kept, left_rows_go_alone};
-pub use owned::join_owned;
-pub use right_side::RightSide;
+pub use build_side::BuildSide;
+pub use joining::{join, join_owned};

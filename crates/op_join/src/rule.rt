@@ -1,12 +1,12 @@
-ghost use Rattle.std.specs.Prelude.{◌≡◌, ℕ, List, filter, IsTrue};
-ghost use Rattle.std.specs.List.{flat_map};
+ghost use Rattle.std.specs.Prelude.{◌≡◌, ℕ, List, IsTrue};
 ghost use Rattle.bag_laws.specs.Rows.{OneRow};
-ghost use Rattle.plan_model.specs.Joins.{joined, matches};
-ghost use Rattle.op_join.specs.Sides.{given, goes_by_left};
+ghost use Rattle.plan_model.specs.Joins.{joined, matches, nulls};
+ghost use Rattle.plan_model.specs.Operators.{repeats_right};
+ghost use Rattle.op_join.specs.Sides.{outputs};
 
 use plan_model::JoinKind;
 
-/// What a row of one side gives with its matches on the other.
+/// What a probe row gives with its matches on the other side.
 #[derive(Clone, Copy, Debug, PartialEq, Eq)]
 pub enum Rule {
     /// The row before each match.
@@ -25,9 +25,10 @@ pub enum Rule {
 
 /// What each left row gives, in a join that goes by its left rows.
 pub fn left_rule(kind: JoinKind) -> Rule
-    requires { IsTrue (goes_by_left kind) }
+    requires { IsTrue (repeats_right kind) }
     ensures { (keys : List (ℕ × ℕ)) (left_width right_width : ℕ) (left right : List OneRow)
-        → flat_map (λ row. given result right_width row (filter (matches keys row) right)) left ≡ joined keys left_width right_width left right kind }
+        → outputs result (nulls right_width) (matches keys) left right
+        ≡ joined keys left_width right_width left right kind }
 {
     match kind {
         JoinKind::Inner => Rule::Pairs,

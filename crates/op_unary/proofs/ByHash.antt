@@ -11,8 +11,8 @@ use Rattle.std.specs.declared.cmp.Ordering.{Ordering}
 use Rattle.std.specs.declared.cmp.Ordering.TheVariants.{Less, Equal, Greater}
 use Rattle.row_core.specs.Values.{row_cmp, same_row}
 use Rattle.bag_laws.specs.Rows.{OneRow as Row}
-use Rattle.bag_laws.proofs.Sorted.{IsStrict, false_from}
-use Rattle.bag_laws.proofs.Orders.{rows_strict, same_row_is, strict_from, value_apart, value_total}
+use Rattle.bag_laws.proofs.Laws.{IsStrict, false_from}
+use Rattle.bag_laws.proofs.Laws.{rows_strict, same_row_is, strict_from, value_apart, value_total}
 use Rattle.op_unary.specs.Hashes.{hash_cmp, hash_of}
 
 abbrev pub hash_less : Row → Row → Bool

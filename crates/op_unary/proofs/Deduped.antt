@@ -5,7 +5,7 @@ use Rattle.std.proofs.lemmas.List.Elements.{All-head, All-tail}
 use Rattle.std.specs.List.{dedup, dedup_from}
 use Rattle.std.specs.Prelude.{cond, ◌==◌, ◌&&◌}
 use Rattle.row_core.specs.Values.{same_row}
-use Rattle.bag_laws.proofs.Orders.{same_row_is}
+use Rattle.bag_laws.proofs.Laws.{same_row_is}
 use Rattle.bag_laws.specs.Rows.{OneRow as Row}
 use Rattle.op_unary.specs.Hashes.{hash_of}
 

@@ -1,18 +1,14 @@
-pub mod Orders
-pub mod Sames
-pub mod ByHash
-pub mod Deduped
-pub mod Firsts
-pub mod Marks
-pub mod Places
-pub mod Rising
-pub mod Runs
-pub mod Pieces
-pub mod Sums
-pub mod Owed
-pub mod Parts
-pub mod Matched
-pub mod Rests
-pub mod Joins
-pub mod Told
-pub mod Neighbours
+mod ByHash
+mod Deduped
+mod Marks
+mod Matched
+mod Merges
+mod Neighbours
+mod Parts
+mod Pieces
+mod Places
+mod Rests
+mod Rising
+mod Runs
+mod Sums
+mod Told

@@ -9,9 +9,9 @@ use Rattle.std.proofs.Math.ListN.{set}
 use Rattle.row_core.specs.Bags.{SameBag, count_of, one_of_each}
 use Rattle.row_core.specs.Values.{same_row}
 use Rattle.bag_laws.specs.Rows.{OneRow as Row}
-use Rattle.bag_laws.proofs.Alike.{same_refl, same_on, append_swap}
-use Rattle.bag_laws.proofs.Counts.{count-append, count-cons, count-one_of_each, SameBag-append}
-use Rattle.bag_laws.proofs.Orders.{rows_strict}
+use Rattle.bag_laws.proofs.Laws.{same_refl, same_on, append_swap}
+use Rattle.bag_laws.proofs.Laws.{count-append, count-cons, count-one_of_each, SameBag-append}
+use Rattle.bag_laws.proofs.Laws.{rows_strict}
 
 -- a mark more gives its row
 pub mark_gives : (marks : List Bool) (rows : List Row) (place : ℕ) → length marks ≡ length rows → place < length rows → get_or marks place false ≡ false

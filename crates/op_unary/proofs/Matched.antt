@@ -1,11 +1,11 @@
 -- An operator that was matched, with rows that are known by another name.
 use Rattle.std.proofs.Common.{◌≡◌, ◌∷◌, [], All, IsTrue, List, length, sym, subst}
 use Rattle.row_core.specs.Bags.{SameBag}
-use Rattle.bag_laws.proofs.Alike.{same_refl}
+use Rattle.bag_laws.proofs.Laws.{same_refl}
 use Rattle.bag_laws.specs.Rows.{OneRow as Row}
 use Rattle.plan_model.specs.Checks.{columns_fit}
 use Rattle.plan_model.specs.declared.op.Op.{Op}
-use Rattle.op_unary.specs.Applied.{applied}
+use Rattle.operator_laws.specs.Applied.{applied}
 
 pub columns : (op known : Op) (rows here : List Row) → op ≡ known → here ≡ rows → All (λ row. IsTrue (columns_fit op (length row ∷ []))) rows → All (λ row. IsTrue (columns_fit known (length row ∷ []))) here
 columns op known rows here is here-is fit =

@@ -3,8 +3,8 @@ use Rattle.std.proofs.Common.{◌≡◌, true, false, List, [], ◌∷◌, ◌++
 use Rattle.std.proofs.lemmas.List.Elements.{All-nil, All-cons, All-append}
 use Rattle.row_core.specs.Values.{same_row}
 use Rattle.bag_laws.specs.Rows.{OneRow as Row}
-use Rattle.bag_laws.proofs.Sorted.{Ascends, Below, false_from}
-use Rattle.bag_laws.proofs.Orders.{same_row_is}
+use Rattle.bag_laws.proofs.Laws.{Ascends, Below, false_from}
+use Rattle.bag_laws.proofs.Laws.{same_row_is}
 use Rattle.op_unary.specs.Groups.{AllDiffer}
 use Rattle.op_unary.proofs.ByHash.{hash_less, hash_strict}
 

@@ -7,26 +7,26 @@ use Rattle.std.proofs.lemmas.List.Elements.{All-nil, All-cons, All-head, All-tai
 use Rattle.std.specs.List.{items_where_true}
 use Rattle.row_core.specs.Bags.{SameBag, one_of_each}
 use Rattle.bag_laws.specs.Rows.{OneRow as Row}
-use Rattle.bag_laws.proofs.Alike.{same_on, same_refl, same_sym}
-use Rattle.bag_laws.proofs.Counts.{SameBag-append}
+use Rattle.bag_laws.proofs.Laws.{same_on, same_refl, same_sym}
+use Rattle.bag_laws.proofs.Laws.{SameBag-append}
 use Rattle.op_unary.specs.Distinct.{moved, rank, row_at, ArePlaces, IsOrder}
 use Rattle.op_unary.specs.Hashes.{hash_of}
-use Rattle.op_unary.specs.declared.placed.Placed.{Placed}
+use Rattle.op_unary.specs.declared.hashed_row.HashedRow.{HashedRow}
 use Rattle.op_unary.proofs.Parts.{all_distinct, as_long}
 
 -- the rows at places, where each place has the same row
-same_rows : (rows others : List Row) (places : List Placed) → All (λ placed. row_at others placed ≡ row_at rows placed) places → map (row_at others) places ≡ map (row_at rows) places
+same_rows : (rows others : List Row) (places : List HashedRow) → All (λ hashed. row_at others hashed ≡ row_at rows hashed) places → map (row_at others) places ≡ map (row_at rows) places
 same_rows rows others [] all = refl
-same_rows rows others (placed ∷ places) all =
-    (λ i. All-head (λ p. row_at others p ≡ row_at rows p) placed places all i ∷ same_rows rows others places (All-tail (λ p. row_at others p ≡ row_at rows p) placed places all) i)
+same_rows rows others (hashed ∷ places) all =
+    (λ i. All-head (λ p. row_at others p ≡ row_at rows p) hashed places all i ∷ same_rows rows others places (All-tail (λ p. row_at others p ≡ row_at rows p) hashed places all) i)
 
 -- ---- more rows
 
-row_stays : (rows more : List Row) (placed : Placed) → placed.place < length rows → row_at (rows ++ more) placed ≡ row_at rows placed
-row_stays rows more placed lt = get_or_append_left rows more [] placed.place lt
+row_stays : (rows more : List Row) (hashed : HashedRow) → hashed.place < length rows → row_at (rows ++ more) hashed ≡ row_at rows hashed
+row_stays rows more hashed lt = get_or_append_left rows more [] hashed.place lt
 
 -- no more places than rows
-pub no_longer : (rows : List Row) (order : List Placed) → IsOrder rows order → length order ≤ length rows
+pub no_longer : (rows : List Row) (order : List HashedRow) → IsOrder rows order → length order ≤ length rows
 no_longer rows order is =
     let same = as_long (map (row_at rows) order) (take (length order) rows) is.front in
     let long = length-map order (row_at rows) in
@@ -34,7 +34,7 @@ no_longer rows order is =
     omega (arith, same, long, taken)
 
 -- rows behind them change nothing
-pub with_more : (rows more : List Row) (order : List Placed) → IsOrder rows order → IsOrder (rows ++ more) order
+pub with_more : (rows more : List Row) (order : List HashedRow) → IsOrder rows order → IsOrder (rows ++ more) order
 with_more rows more order is =
     let within = is.places.within in
     let long = length-append rows more in
@@ -49,21 +49,21 @@ with_more rows more order is =
     }
 
 -- the place of the next row
-pub one_more : (rows : List Row) (order : List Placed) (placed : Placed) → IsOrder rows order → placed.place ≡ length order → placed.place < length rows
-    → placed.hash ≡ hash_of (row_at rows placed) → IsOrder rows (order ++ placed ∷ [])
-one_more rows order placed is at lt hash =
+pub one_more : (rows : List Row) (order : List HashedRow) (hashed : HashedRow) → IsOrder rows order → hashed.place ≡ length order → hashed.place < length rows
+    → hashed.hash ≡ hash_of (row_at rows hashed) → IsOrder rows (order ++ hashed ∷ [])
+one_more rows order hashed is at lt hash =
     let row = row_at rows in
-    let long : length (order ++ placed ∷ []) ≡ length order + 1 = length-append order (placed ∷ []) in
-    let taken : take (length (order ++ placed ∷ [])) rows ≡ take (length order) rows ++ row placed ∷ [] =
+    let long : length (order ++ hashed ∷ []) ≡ length order + 1 = length-append order (hashed ∷ []) in
+    let taken : take (length (order ++ hashed ∷ [])) rows ≡ take (length order) rows ++ row hashed ∷ [] =
     ap (λ (n : ℕ). take n rows) long ∙ take_more rows (length order) [] (omega (arith, at, lt)) ∙ ap (λ (n : ℕ). take (length order) rows ++ get_or rows n [] ∷ []) (sym at) in
     record {
       places = record {
-        within = All-append (λ p. p.place < length rows) order (placed ∷ []) is.places.within (All-cons (λ p. p.place < length rows) placed [] lt (All-nil (λ p. p.place < length rows)));
-        hashes = All-append (λ p. p.hash ≡ hash_of (row p)) order (placed ∷ []) is.places.hashes (All-cons (λ p. p.hash ≡ hash_of (row p)) placed [] hash (All-nil (λ p. p.hash ≡ hash_of (row p))));
+        within = All-append (λ p. p.place < length rows) order (hashed ∷ []) is.places.within (All-cons (λ p. p.place < length rows) hashed [] lt (All-nil (λ p. p.place < length rows)));
+        hashes = All-append (λ p. p.hash ≡ hash_of (row p)) order (hashed ∷ []) is.places.hashes (All-cons (λ p. p.hash ≡ hash_of (row p)) hashed [] hash (All-nil (λ p. p.hash ≡ hash_of (row p))));
       };
-      front = subst (λ (l : List Row). SameBag l (take (length (order ++ placed ∷ [])) rows)) (sym (map-append row order (placed ∷ [])))
-          (subst (λ (l : List Row). SameBag (map row order ++ row placed ∷ []) l) (sym taken)
-          (SameBag-append (map row order) (row placed ∷ []) (take (length order) rows) (row placed ∷ []) is.front (same_refl (row placed ∷ []))));
+      front = subst (λ (l : List Row). SameBag l (take (length (order ++ hashed ∷ [])) rows)) (sym (map-append row order (hashed ∷ [])))
+          (subst (λ (l : List Row). SameBag (map row order ++ row hashed ∷ []) l) (sym taken)
+          (SameBag-append (map row order) (row hashed ∷ []) (take (length order) rows) (row hashed ∷ []) is.front (same_refl (row hashed ∷ []))));
     }
 
 -- ---- marked rows alone
@@ -109,13 +109,13 @@ at_rank (true ∷ marks) (row ∷ rows) (suc place) same lt is =
     (omega (arith, here), later.1)
 at_rank (false ∷ marks) (row ∷ rows) (suc place) same lt is = at_rank marks rows place (omega arith) (omega arith) is
 
-moved_rows : (rows left : List Row) (marks : List Bool) (firsts : List Placed) → All (λ first. row_at left (moved marks first) ≡ row_at rows first) firsts
+moved_rows : (rows left : List Row) (marks : List Bool) (firsts : List HashedRow) → All (λ first. row_at left (moved marks first) ≡ row_at rows first) firsts
     → map (row_at left) (map (moved marks) firsts) ≡ map (row_at rows) firsts
 moved_rows rows left marks [] all = refl
 moved_rows rows left marks (first ∷ firsts) all =
     (λ i. All-head (λ p. row_at left (moved marks p) ≡ row_at rows p) first firsts all i ∷ moved_rows rows left marks firsts (All-tail (λ p. row_at left (moved marks p) ≡ row_at rows p) first firsts all) i)
 
-module _ (marks : List Bool) (rows : List Row) (firsts : List Placed) (long : length marks ≡ length rows) (are : ArePlaces rows firsts)
+module _ (marks : List Bool) (rows : List Row) (firsts : List HashedRow) (long : length marks ≡ length rows) (are : ArePlaces rows firsts)
     (set : All (λ first. get_or marks first.place false ≡ true) firsts) (each : SameBag (map (row_at rows) firsts) (one_of_each rows))
     (marked : SameBag (items_where_true marks rows) (one_of_each rows)) where
   abbrev left : List Row
@@ -132,7 +132,7 @@ module _ (marks : List Bool) (rows : List Row) (firsts : List Placed) (long : le
   -- the places among them
   pub renumbered : IsOrder (items_where_true marks rows) (map (moved marks) firsts)
   renumbered =
-      let here = λ (i : ℕ) (d : Placed) (lt : i < length firsts). at_rank marks rows (get_or firsts i d).place long (are.within i d lt) (set i d lt) in
+      let here = λ (i : ℕ) (d : HashedRow) (lt : i < length firsts). at_rank marks rows (get_or firsts i d).place long (are.within i d lt) (set i d lt) in
       let same = moved_rows rows left marks firsts (λ i d lt. (here i d lt).1) in
       record {
         places = record {

@@ -6,11 +6,11 @@ use Rattle.std.specs.List.{dedup, dedup_from}
 use Rattle.row_core.specs.Bags.{SameBag, count_of, one_of_each}
 use Rattle.row_core.specs.Values.{same_row}
 use Rattle.bag_laws.specs.Rows.{OneRow as Row}
-use Rattle.bag_laws.proofs.Counts.{count-cons, count-one_of_each}
-use Rattle.bag_laws.proofs.Orders.{same_row_is}
+use Rattle.bag_laws.proofs.Laws.{count-cons, count-one_of_each}
+use Rattle.bag_laws.proofs.Laws.{same_row_is}
 use Rattle.op_unary.specs.Distinct.{row_at, ArePlaces, Rises}
 use Rattle.op_unary.specs.Hashes.{hash_of}
-use Rattle.op_unary.specs.declared.placed.Placed.{Placed}
+use Rattle.op_unary.specs.declared.hashed_row.HashedRow.{HashedRow}
 
 -- ---- what leaving repeated neighbours out keeps
 
@@ -49,27 +49,27 @@ still_each xs = record { counts = λ z. count-one_of_each z (dedup same_row xs) 
 
 -- ---- hashes that rise
 
-rises_later : (p : Placed) (ps : List Placed) → Rises (p ∷ ps) → Rises ps
+rises_later : (p : HashedRow) (ps : List HashedRow) → Rises (p ∷ ps) → Rises ps
 rises_later p ps up = λ k d lt. up (suc k) d (omega (arith, lt))
 
-above : (p : Placed) (ps : List Placed) → Rises (p ∷ ps) → (k : ℕ) (d : Placed) → k < length ps → p.hash < (get_or ps k d).hash
+above : (p : HashedRow) (ps : List HashedRow) → Rises (p ∷ ps) → (k : ℕ) (d : HashedRow) → k < length ps → p.hash < (get_or ps k d).hash
 above p ps up zero d lt = up zero d (omega (arith, lt))
 above p ps up (suc k) d lt =
     let before = above p ps up k d (omega (arith, lt)) in
     let here = up (suc k) d (omega (arith, lt)) in
     omega (arith, before, here)
 
-none_equal : (rows : List Row) (z : Row) (ps : List Placed) → All (λ p. same_row z (row_at rows p) ≡ false) ps → count_of z (map (row_at rows) ps) ≡ 0
+none_equal : (rows : List Row) (z : Row) (ps : List HashedRow) → All (λ p. same_row z (row_at rows p) ≡ false) ps → count_of z (map (row_at rows) ps) ≡ 0
 none_equal rows z [] all = refl
 none_equal rows z (p ∷ ps) all =
     count-cons z (row_at rows p) (map (row_at rows) ps)
     ∙ (λ i. cond (All-head (λ q. same_row z (row_at rows q) ≡ false) p ps all i) 1 0 + none_equal rows z ps (All-tail (λ q. same_row z (row_at rows q) ≡ false) p ps all) i)
 
 module _ (rows : List Row) where
-  abbrev Hashed : List Placed → Type 0
+  abbrev Hashed : List HashedRow → Type 0
   Hashed = All (λ p. p.hash ≡ hash_of (row_at rows p))
 
-  other_row : (z : Row) (p q : Placed) → z ≡ row_at rows p → p.hash ≡ hash_of (row_at rows p) → q.hash ≡ hash_of (row_at rows q) → p.hash < q.hash → same_row z (row_at rows q) ≡ false
+  other_row : (z : Row) (p q : HashedRow) → z ≡ row_at rows p → p.hash ≡ hash_of (row_at rows p) → q.hash ≡ hash_of (row_at rows q) → p.hash < q.hash → same_row z (row_at rows q) ≡ false
   other_row z p q is mine theirs less = elim (cases_Bool (same_row z (row_at rows q))) [
     | inl tie ↦
         let one : p.hash ≡ q.hash = mine ∙ ap hash_of (sym is ∙ same_row_is z (row_at rows q) tie) ∙ sym theirs in
@@ -77,7 +77,7 @@ module _ (rows : List Row) where
     | inr other ↦ other
   ]
 
-  once : (z : Row) (ps : List Placed) → Hashed ps → Rises ps → count_of z (map (row_at rows) ps) ≤ 1
+  once : (z : Row) (ps : List HashedRow) → Hashed ps → Rises ps → count_of z (map (row_at rows) ps) ≤ 1
   once z [] hashed up = omega arith
   once z (p ∷ ps) hashed up =
       let first = count-cons z (row_at rows p) (map (row_at rows) ps) in
@@ -95,7 +95,7 @@ module _ (rows : List Row) where
       ]
 
   -- no two of the rows are equal
-  pub rising_differ : (ps : List Placed) → ArePlaces rows ps → Rises ps → SameBag (map (row_at rows) ps) (one_of_each (map (row_at rows) ps))
+  pub rising_differ : (ps : List HashedRow) → ArePlaces rows ps → Rises ps → SameBag (map (row_at rows) ps) (one_of_each (map (row_at rows) ps))
   rising_differ ps are up = record {
     counts = λ z.
         let most = once z ps are.hashes up in

@@ -12,8 +12,8 @@ use Rattle.row_core.specs.Values.{same_row}
 use Rattle.plan_model.specs.Operators.{agg_value, aggregated, key_of, rows_with}
 use Rattle.plan_model.specs.declared.agg.Agg.{Agg}
 use Rattle.bag_laws.specs.Rows.{OneRow as Row}
-use Rattle.bag_laws.proofs.Orders.{rows_strict, same_row_is}
-use Rattle.bag_laws.proofs.Counts.{same-swapped}
+use Rattle.bag_laws.proofs.Laws.{rows_strict, same_row_is}
+use Rattle.bag_laws.proofs.Laws.{same-swapped}
 
 -- the things at the front with a key
 module _ {X : Type 0} (key : X → Row) (first : Row) where

@@ -11,18 +11,18 @@ use Rattle.row_core.specs.Values.{same_row}
 use Rattle.plan_model.specs.Operators.{agg_value, aggregated, key_of, rows_with}
 use Rattle.plan_model.specs.declared.agg.Agg.{Agg}
 use Rattle.bag_laws.specs.Rows.{OneRow as Row, AreApart}
-use Rattle.bag_laws.proofs.Alike.{same_refl, same_sym, same_on, by_weights}
-use Rattle.bag_laws.proofs.Counts.{SameBag-append}
-use Rattle.bag_laws.proofs.Orders.{rows_strict}
-use Rattle.bag_laws.proofs.Permutations.{permutation_of_same}
-use Rattle.bag_laws.proofs.Totals.{total, total_is, total-flat_map}
+use Rattle.bag_laws.proofs.Laws.{same_refl, same_sym, same_on, by_weights}
+use Rattle.bag_laws.proofs.Laws.{SameBag-append}
+use Rattle.bag_laws.proofs.Laws.{rows_strict}
+use Rattle.bag_laws.proofs.Laws.{permutation_of_same}
+use Rattle.bag_laws.proofs.Laws.{total, total_is, total-flat_map}
 use Rattle.op_unary.specs.Groups.{AllDiffer, AreTold, TellsOf, key_count}
-use Rattle.op_unary.specs.Partials.{told}
+use Rattle.op_unary.specs.Accumulators.{finish}
 use Rattle.op_unary.specs.declared.group.Group.{Group}
-use Rattle.op_unary.proofs.Joins.{all_told}
+use Rattle.op_unary.proofs.Merges.{all_told}
 use Rattle.op_unary.proofs.Parts.{as_long}
 use Rattle.op_unary.proofs.Runs.{one_group}
-use Rattle.op_unary.proofs.Sames.{aggregated_keyed}
+use Rattle.operator_laws.proofs.Laws.{aggregated_keyed}
 
 same_lists : {xs ys : List Row} → xs ≡ ys → SameBag xs ys
 same_lists {xs} {ys} e = subst (λ (l : List Row). SameBag xs l) e (same_refl xs)
@@ -139,7 +139,7 @@ module _ (keys : List ℕ) (aggs : List Agg) where
       (keys_among P gs t.1 t.3 (All-tail P g.key (map (λ group. group.key) gs) all)))
 
   abbrev row_of : Group → Row
-  row_of group = group.key ++ map told group.partials.items
+  row_of group = group.key ++ map finish group.accumulators.items
 
   one_row : (g : Group) (part : List Row) → TellsOf keys aggs g part → aggregated keys aggs part ≡ row_of g ∷ []
   one_row g [] tells = absurd (omega (arith, tells.some))
@@ -151,7 +151,7 @@ module _ (keys : List ℕ) (aggs : List Agg) where
       (All-weaker (λ other. key other ≡ g.key) (λ other. same_row (key row) (key other) ≡ true)
       (λ other e. subst (λ (w : Row). same_row (key row) w ≡ true) (mine ∙ sym e) (rows_strict.itself (key row))) rows (All-tail (λ row. key row ≡ g.key) row rows tells.one_key)) in
       one_group keys aggs row rows ties
-      ∙ (λ i. (mine i ++ (sym (all_told (row ∷ rows) aggs) ∙ ap (map told) (sym tells.partials)) i) ∷ [])
+      ∙ (λ i. (mine i ++ (sym (all_told (row ∷ rows) aggs) ∙ ap (map finish) (sym tells.accumulators)) i) ∷ [])
 
   pub made_of : (gs : List Group) (rows : List Row) → AreTold keys aggs gs rows → AllDiffer (map (λ group. group.key) gs) → SameBag (map row_of gs) (aggregated keys aggs rows)
   made_of [] rows t differ = (aggregated_keyed keys aggs).same [] rows (same_sym t)

@@ -1,6 +1,6 @@
-pub mod Applied
+pub mod Accumulators
 pub mod Cells
 pub mod Distinct
-pub mod Hashes
-pub mod Partials
 pub mod Groups
+pub mod Hashes
+pub mod Inputs

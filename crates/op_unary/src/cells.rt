@@ -3,7 +3,7 @@ ghost use Rattle.row_core.specs.Values.{value_cmp};
 ghost use Rattle.row_core.specs.declared.value.Value.TheVariants.{Null};
 ghost use Rattle.op_unary.specs.Cells.{or_null};
 
-use row_core::{NoMemory, Row, Rows, Value};
+use row_core::{NoMemory, Row, Value};
 use std::alloc::Global;
 use std::cmp::Ordering;
 
@@ -34,15 +34,4 @@ pub fn copied(alloc: Global, value: Option<&Value>) -> Result<Value, NoMemory>
         Some(value) => value.copy(alloc),
         None => Ok(Value::Null),
     }
-}
-
-/// A copy of the rows.
-pub fn copies(alloc: Global, rows: &[Row]) -> Result<Rows, NoMemory>
-    ensures { IfOk result (λ copies. copies ≡ rows.now) }
-{
-    let mut copies = Rows::new(alloc);
-    for row in rows {
-        copies.push(row.copy(alloc)?)?;
-    }
-    Ok(copies)
 }

@@ -3,8 +3,8 @@ ghost use Rattle.row_core.specs.Bags.{SameBag, one_of_each};
 ghost use Rattle.op_unary.specs.Distinct.{IsOrder};
 
 use crate::first_places::first_places;
+use crate::hashed_row::HashedRow;
 use crate::marking::{keep_marked, mark, renumbered};
-use crate::placed::Placed;
 use row_core::{NoMemory, Rows};
 use std::alloc::Global;
 use std::marker::Model;
@@ -16,7 +16,7 @@ pub struct DistinctRows {
     // those that were left the last time, and behind them those that came since
     rows: Rows,
     // the places of those that were left, by hash, so that they need not be sorted anew
-    order: Vec<Placed>,
+    order: Vec<HashedRow>,
 }
 
 impl Model for DistinctRows {
@@ -48,7 +48,7 @@ impl DistinctRows {
         ensures few { IfOk result (λ kept. 4 * length kept ≤ 5 * length (one_of_each kept)) }
     {
         let order = self.order;
-        let rows = joined(self.rows, rows)?;
+        let rows = append_rows(self.rows, rows)?;
         if rows.len() < order.len().saturating_add(order.len() / 4) {
             return Ok(DistinctRows { rows, order });
         }
@@ -71,7 +71,7 @@ pub fn distinct_owned(alloc: Global, rows: Rows) -> Result<Rows, NoMemory>
 }
 
 // One of each, where the first of the rows are in this order.
-fn settle(alloc: Global, rows: Rows, order: Vec<Placed>) -> Result<DistinctRows, NoMemory>
+fn settle(alloc: Global, rows: Rows, order: Vec<HashedRow>) -> Result<DistinctRows, NoMemory>
     requires { IsOrder rows order.items }
     ensures { IfOk result (λ kept. SameBag kept (one_of_each rows)) }
 {
@@ -83,7 +83,7 @@ fn settle(alloc: Global, rows: Rows, order: Vec<Placed>) -> Result<DistinctRows,
 }
 
 // The rows of both, in their order.
-fn joined(rows: Rows, others: Rows) -> Result<Rows, NoMemory>
+fn append_rows(rows: Rows, others: Rows) -> Result<Rows, NoMemory>
     ensures { IfOk result (λ all. all ≡ rows ++ others) }
 {
     if rows.is_empty() {

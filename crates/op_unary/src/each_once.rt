@@ -3,7 +3,7 @@ ghost use Rattle.row_core.specs.Bags.{SameBag, one_of_each};
 ghost use Rattle.op_unary.specs.Distinct.{row_at};
 
 use crate::first_places::first_places;
-use crate::placed::Placed;
+use crate::hashed_row::HashedRow;
 use row_core::{NoMemory, Row, Rows};
 use std::alloc::Global;
 
@@ -15,7 +15,7 @@ pub fn distinct(alloc: Global, rows: &[Row]) -> Result<Rows, NoMemory>
     copies_at(alloc, rows, firsts.as_slice())
 }
 
-fn copies_at(alloc: Global, rows: &[Row], firsts: &[Placed]) -> Result<Rows, NoMemory>
+fn copies_at(alloc: Global, rows: &[Row], firsts: &[HashedRow]) -> Result<Rows, NoMemory>
     requires { All (λ first. first.place < length rows.now) firsts.now }
     ensures { IfOk result (λ copies. copies ≡ map (row_at rows.now) firsts.now) }
 {

@@ -1,72 +1,45 @@
-ghost use Rattle.std.specs.Prelude.{◌≡◌, ◌<◌, ◌++◌, [], ◌∷◌, length, map, slice_set, nat_lt, All, IfOk, IsTrue, OnOk};
+ghost use Rattle.std.specs.Prelude.{◌≡◌, ◌<◌, ◌++◌, [], ◌∷◌, length, map, slice_set, IfOk, OnOk};
 ghost use Rattle.row_core.specs.declared.value.Value.TheVariants.{Text as text_cell};
 ghost use Rattle.plan_model.specs.Operators.{exploded, pieces};
 
 use row_core::{Bytes, NoMemory, Row, Rows, Value};
 use std::alloc::Global;
 
-/// Each row once for each piece of the text in the column, with the piece in its place.
-pub fn explode(alloc: Global, column: u32, separator: u8, rows: &[Row]) -> Result<Rows, NoMemory>
-    requires { All (λ row. IsTrue (nat_lt column (length row))) rows.now }
-    ensures { IfOk result (λ made. made ≡ exploded column separator rows.now) }
-{
-    let mut made = Rows::new(alloc);
-    for row in rows {
-        explode_row(alloc, &mut made, column, separator, row)?;
-    }
-    Ok(made)
-}
-
-/// What `explode` gives, of rows that are the call's own: each is let go as soon as it is used.
-pub fn explode_owned(
+/// Appends the row once for each piece of the text in the column, with the piece in its place.
+pub fn explode_row(
     alloc: Global,
-    column: u32,
-    separator: u8,
-    rows: Rows,
-) -> Result<Rows, NoMemory>
-    requires { All (λ row. IsTrue (nat_lt column (length row))) rows }
-    ensures { IfOk result (λ made. made ≡ exploded column separator rows) }
-{
-    let mut made = Rows::new(alloc);
-    for row in rows.into_vec() {
-        explode_row(alloc, &mut made, column, separator, &row)?;
-    }
-    Ok(made)
-}
-
-fn explode_row(
-    alloc: Global,
-    made: &mut Rows,
+    out: &mut Rows,
     column: u32,
     separator: u8,
     row: &Row,
 ) -> Result<(), NoMemory>
     requires { column < length row.now }
-    ensures { OnOk result (made.new ≡ made.old ++ exploded column separator (row.now ∷ [])) }
+    ensures { OnOk result (out.new ≡ out.old ++ exploded column separator (row.now ∷ [])) }
 {
     match &row.as_slice()[column as usize] {
         Value::Null => Ok(()),
         Value::Int(number) => {
             let shown = number.to_string(alloc)?;
-            push_pieces(alloc, made, column, separator, row, shown.as_bytes())
+            push_pieces(alloc, out, column, separator, row, shown.as_bytes())
         }
-        Value::Text(text) => push_pieces(alloc, made, column, separator, row, text.as_slice()),
+        Value::Text(text) => push_pieces(alloc, out, column, separator, row, text.as_slice()),
     }
 }
 
 fn push_pieces(
     alloc: Global,
-    made: &mut Rows,
+    out: &mut Rows,
     column: u32,
     separator: u8,
     row: &Row,
     text: &[u8],
 ) -> Result<(), NoMemory>
     requires { column < length row.now }
-    ensures { OnOk result (made.new ≡ made.old ++ map (λ piece. slice_set row.now column (text_cell piece)) (pieces separator text.now)) }
+    ensures { OnOk result (out.new ≡ out.old
+        ++ map (λ piece. slice_set row.now column (text_cell piece)) (pieces separator text.now)) }
 {
     for piece in text.split(|byte| *byte == separator) {
-        made.push(with_piece(alloc, row, column, piece)?)?;
+        out.push(with_piece(alloc, row, column, piece)?)?;
     }
     Ok(())
 }

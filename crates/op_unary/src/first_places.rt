@@ -4,13 +4,13 @@ ghost use Rattle.row_core.specs.Bags.{SameBag, one_of_each};
 ghost use Rattle.row_core.specs.Values.{row_cmp};
 ghost use Rattle.op_unary.specs.Distinct.{row_at, ArePlaces, IsOrder, Rises};
 
+use crate::hashed_row::HashedRow;
 use crate::hashing::hash_row;
-use crate::placed::Placed;
 use row_core::{NoMemory, Row, cmp_rows};
 use std::cmp::Ordering;
 
 /// The places of one of each row, by hash, where the first of the rows are in this order.
-pub fn first_places(rows: &[Row], order: Vec<Placed>) -> Result<Vec<Placed>, NoMemory>
+pub fn first_places(rows: &[Row], order: Vec<HashedRow>) -> Result<Vec<HashedRow>, NoMemory>
     requires { IsOrder rows.now order.items }
     ensures places { IfOk result (λ firsts. ArePlaces rows.now firsts.items) }
     ensures each { IfOk result (λ firsts. SameBag (map (row_at rows.now) firsts.items) (one_of_each rows.now)) }
@@ -23,7 +23,7 @@ pub fn first_places(rows: &[Row], order: Vec<Placed>) -> Result<Vec<Placed>, NoM
 }
 
 // By hashes alone, without what equals the one before. The sort finds in order what was so, and looks at no row.
-fn by_hash(rows: &[Row], places: Vec<Placed>) -> Result<Vec<Placed>, NoMemory>
+fn by_hash(rows: &[Row], places: Vec<HashedRow>) -> Result<Vec<HashedRow>, NoMemory>
     requires { ArePlaces rows.now places.items }
     ensures places { IfOk result (λ left. ArePlaces rows.now left.items) }
     ensures same { IfOk result (λ left. SameBag (one_of_each (map (row_at rows.now) left.items)) (one_of_each (map (row_at rows.now) places.items))) }
@@ -36,26 +36,26 @@ fn by_hash(rows: &[Row], places: Vec<Placed>) -> Result<Vec<Placed>, NoMemory>
 
 // Whether each hash is greater than the one before. Then no two rows are equal. Else two rows have one hash, and
 // others may stand between equal ones.
-fn rises(places: &[Placed]) -> bool
+fn rises(places: &[HashedRow]) -> bool
     ensures { result ≡ true → Rises places.now }
 {
     places.is_sorted_by(|a, b| a.hash < b.hash)
 }
 
 // One of each, by hashes and by rows where hashes are equal.
-fn by_row(rows: &[Row], places: Vec<Placed>) -> Vec<Placed>
+fn by_row(rows: &[Row], places: Vec<HashedRow>) -> Vec<HashedRow>
     requires { ArePlaces rows.now places.items }
     ensures places { ArePlaces rows.now result.items }
     ensures each { SameBag (map (row_at rows.now) result.items) (one_of_each (map (row_at rows.now) places.items)) }
 {
     let mut firsts = places;
-    firsts.sort_unstable_by(|a, b| cmp_placed(rows, a, b));
+    firsts.sort_unstable_by(|a, b| cmp_hashed(rows, a, b));
     firsts.dedup_by(|a, b| a.hash == b.hash && cmp_at(rows, a.place, b.place).is_eq());
     firsts
 }
 
 // The same places, and behind them those of the other rows.
-fn with_others(rows: &[Row], order: Vec<Placed>) -> Result<Vec<Placed>, NoMemory>
+fn with_others(rows: &[Row], order: Vec<HashedRow>) -> Result<Vec<HashedRow>, NoMemory>
     requires { IsOrder rows.now order.items }
     ensures order { IfOk result (λ all. IsOrder rows.now all.items) }
     ensures all { IfOk result (λ all. length all.items ≡ length rows.now) }
@@ -63,12 +63,12 @@ fn with_others(rows: &[Row], order: Vec<Placed>) -> Result<Vec<Placed>, NoMemory
     let mut all = order;
     for place in all.len()..rows.len() {
         let hash = hash_row(&rows[place]);
-        all.push(Placed { hash, place })?;
+        all.push(HashedRow { hash, place })?;
     }
     Ok(all)
 }
 
-fn cmp_placed(rows: &[Row], a: &Placed, b: &Placed) -> Ordering
+fn cmp_hashed(rows: &[Row], a: &HashedRow, b: &HashedRow) -> Ordering
     ensures { result ≡ ordering_then (nat_cmp a.now.hash b.now.hash) (row_cmp (get_or rows.now a.now.place []) (get_or rows.now b.now.place [])) }
 {
     match a.hash.cmp(&b.hash) {

@@ -1,18 +1,18 @@
 ghost use Rattle.std.specs.Prelude.{◌≡◌};
 ghost use Rattle.op_unary.specs.Hashes.{hash_of};
 
-use crate::joining::joined_partials;
-use crate::partial::Partial;
+use crate::accumulator::Accumulator;
+use crate::merging::merge_accumulators;
 use row_core::{NoMemory, Row, cmp_rows};
 use std::alloc::Global;
 use std::cmp::Ordering;
 
-/// A key with its hash, and what the aggregates have told of some of its rows.
+/// A key with its hash, and the accumulators of some of its rows.
 #[derive(Drop)]
 pub struct Group {
     pub hash: u64,
     pub key: Row,
-    pub partials: Vec<Partial>,
+    pub accumulators: Vec<Accumulator>,
     pub ghost hashed: { hash ≡ hash_of key },
 }
 
@@ -23,7 +23,7 @@ impl Group {
     ghost use Rattle.plan_model.specs.declared.agg.Agg.{Agg as OneAgg};
     ghost use Rattle.op_unary.specs.Groups.{TellsOf};
     ghost use Rattle.op_unary.specs.Hashes.{hash_cmp};
-    ghost use Rattle.op_unary.specs.Partials.{told};
+    ghost use Rattle.op_unary.specs.Accumulators.{finish};
 
     /// Whether the two have one key.
     pub fn has_key_of(&self, other: &Group) -> bool
@@ -42,8 +42,8 @@ impl Group {
         }
     }
 
-    /// One group of the rows of two with one key.
-    pub fn joined(self, alloc: Global, other: Group) -> Result<Group, NoMemory>
+    /// One group for two with one key.
+    pub fn merge(self, alloc: Global, other: Group) -> Result<Group, NoMemory>
         ensures key { IfOk result (λ both. both.key ≡ self.key) }
         ensures rows { (keys : List ℕ) (aggs : List OneAgg) (rows more : List OneRow) → TellsOf keys aggs self rows → TellsOf keys aggs other more → self.key ≡ other.key
             → IfOk result (λ both. TellsOf keys aggs both (rows ++ more)) }
@@ -51,24 +51,28 @@ impl Group {
         let Group {
             hash,
             key,
-            partials,
+            accumulators,
         } = self;
-        let partials = joined_partials(alloc, partials, other.partials)?;
+        let accumulators = merge_accumulators(alloc, accumulators, other.accumulators)?;
         Ok(Group {
             hash,
             key,
-            partials,
+            accumulators,
         })
     }
 
-    /// The key, then what each aggregate tells.
+    /// The key, then the value of each aggregate.
     pub fn into_row(self) -> Result<Row, NoMemory>
-        ensures { IfOk result (λ row. row ≡ self.key ++ map told self.partials.items) }
+        ensures { IfOk result (λ row. row ≡ self.key ++ map finish self.accumulators.items) }
     {
-        let Group { key, partials, .. } = self;
+        let Group {
+            key,
+            accumulators,
+            ..
+        } = self;
         let mut row = key;
-        for partial in partials {
-            row.push(partial.into_value())?;
+        for accumulator in accumulators {
+            row.push(accumulator.finish())?;
         }
         Ok(row)
     }

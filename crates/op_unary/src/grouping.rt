@@ -3,14 +3,14 @@ ghost use Rattle.bag_laws.specs.Rows.{OneRow};
 ghost use Rattle.plan_model.specs.Operators.{key_of};
 ghost use Rattle.op_unary.specs.Groups.{AreTold, TellsOf};
 ghost use Rattle.op_unary.specs.Hashes.{hash_of};
-ghost use Rattle.op_unary.specs.Partials.{partial_of};
+ghost use Rattle.op_unary.specs.Accumulators.{accumulator_of};
 
+use crate::accumulating::accumulate;
+use crate::accumulator::Accumulator;
 use crate::cells::{cell, copied};
 use crate::group::Group;
 use crate::keyed::Keyed;
 use crate::keys::run_length;
-use crate::partial::Partial;
-use crate::telling::tell;
 use plan_model::Agg;
 use row_core::{NoMemory, Row};
 use std::alloc::Global;
@@ -53,11 +53,11 @@ fn run_group(
     ensures { IfOk result (λ group. TellsOf keys.now aggs.now group (map (λ keyed. keyed.row.now) run.now)) }
 {
     let key = key_row(alloc, keys, first.row)?;
-    let partials = partials_of(alloc, aggs, run)?;
+    let accumulators = accumulators_of(alloc, aggs, run)?;
     Ok(Group {
         hash: first.hash,
         key,
-        partials,
+        accumulators,
     })
 }
 
@@ -71,12 +71,12 @@ fn key_row(alloc: Global, keys: &[u32], row: &Row) -> Result<Row, NoMemory>
     Ok(values)
 }
 
-fn partials_of(alloc: Global, aggs: &[Agg], run: &[Keyed]) -> Result<Vec<Partial>, NoMemory>
-    ensures { IfOk result (λ partials. partials.items ≡ map (partial_of (map (λ keyed. keyed.row.now) run.now)) aggs.now) }
+fn accumulators_of(alloc: Global, aggs: &[Agg], run: &[Keyed]) -> Result<Vec<Accumulator>, NoMemory>
+    ensures { IfOk result (λ accumulators. accumulators.items ≡ map (accumulator_of (map (λ keyed. keyed.row.now) run.now)) aggs.now) }
 {
-    let mut partials = Vec::with_capacity(alloc, aggs.len())?;
+    let mut accumulators = Vec::with_capacity(alloc, aggs.len())?;
     for agg in aggs {
-        partials.push(tell(alloc, *agg, run)?)?;
+        accumulators.push(accumulate(alloc, *agg, run)?)?;
     }
-    Ok(partials)
+    Ok(accumulators)
 }

@@ -1,30 +1,44 @@
-ghost use Rattle.std.specs.Prelude.{[], ◌++◌, ℕ, List, IfOk};
+ghost use Rattle.std.specs.Prelude.{[], ℕ, List, IfOk};
 ghost use Rattle.row_core.specs.Bags.{SameBag};
 ghost use Rattle.bag_laws.specs.Rows.{OneRow};
 ghost use Rattle.plan_model.specs.Operators.{aggregated};
 ghost use Rattle.plan_model.specs.declared.agg.Agg.{Agg as OneAgg};
-ghost use Rattle.op_unary.specs.Groups.{StandsFor};
+ghost use Rattle.op_unary.specs.Groups.{GainsRows, StandsFor};
 
-use crate::combining::{combined, into_rows};
 use crate::group::Group;
 use crate::grouping::with_runs;
 use crate::keys::by_key;
+use crate::merging_groups::{into_rows, merge_groups};
 use plan_model::Agg;
 use row_core::{NoMemory, Row, Rows};
 use std::alloc::Global;
+use std::marker::Model;
 
-// So few groups are not worth combining.
+// So few groups are not worth merging_groups.
 const FEW: usize = 1024;
 
-/// The aggregates of rows that come part by part. The rows aren't kept: only what the aggregates have told of
-/// each key so far.
+/// The hash table of an aggregate whose rows come batch by batch. The rows aren't kept: only an accumulator
+/// for each key and aggregate.
 #[derive(Drop)]
 pub struct Groups<'a> {
     keys: &'a [u32],
     aggs: &'a [Agg],
     groups: Vec<Group>,
-    // how many of them there were when they were last combined, one for each key
+    // how many of them there were when they were last merged, one for each key
     settled: usize,
+}
+
+impl<'a> Model for Groups<'a> {
+    ghost use Rattle.op_unary.specs.Groups.{GroupTable};
+
+    ghost Value = { GroupTable };
+
+    ghost view = { λ table. record {
+      keys = table.keys.now;
+      aggs = table.aggs.now;
+      groups = table.groups.items;
+      settled = table.settled;
+    } };
 }
 
 impl<'a> Groups<'a> {
@@ -42,16 +56,14 @@ impl<'a> Groups<'a> {
     /// The same with further rows. Fails for want of memory, or where the rows of one key are more than 64 bits
     /// can count.
     pub fn with_rows(self, alloc: Global, rows: Rows) -> Result<Self, NoMemory>
-        ensures { (keys : List ℕ) (aggs : List OneAgg) (before : List OneRow) → StandsFor keys aggs self.entry before
-            → IfOk result (λ all. StandsFor keys aggs all (before ++ rows)) }
+        ensures { IfOk result (λ table. GainsRows self.entry table rows) }
     {
         self.with_part(alloc, rows.as_slice())
     }
 
     /// `with_rows` of rows that stay their owner's.
     pub fn with_part(self, alloc: Global, rows: &[Row]) -> Result<Self, NoMemory>
-        ensures { (keys : List ℕ) (aggs : List OneAgg) (before : List OneRow) → StandsFor keys aggs self.entry before
-            → IfOk result (λ all. StandsFor keys aggs all (before ++ rows.now)) }
+        ensures { IfOk result (λ table. GainsRows self.entry table rows.now) }
     {
         let Groups {
             keys,
@@ -69,7 +81,7 @@ impl<'a> Groups<'a> {
                 settled,
             });
         }
-        let groups = combined(alloc, groups)?;
+        let groups = merge_groups(alloc, groups)?;
         let settled = groups.len();
         Ok(Groups {
             keys,
@@ -81,10 +93,10 @@ impl<'a> Groups<'a> {
 
     /// One row for each key: the key, then the aggregates of its rows. Fails as `with_rows` does.
     pub fn into_rows(self, alloc: Global) -> Result<Rows, NoMemory>
-        ensures { (keys : List ℕ) (aggs : List OneAgg) (before : List OneRow) → StandsFor keys aggs self.entry before
-            → IfOk result (λ made. SameBag made (aggregated keys aggs before)) }
+        ensures { IfOk result (λ made. (keys : List ℕ) (aggs : List OneAgg) (rows : List OneRow)
+            → StandsFor keys aggs self.entry rows → SameBag made (aggregated keys aggs rows)) }
     {
-        let groups = combined(alloc, self.groups)?;
+        let groups = merge_groups(alloc, self.groups)?;
         into_rows(alloc, groups)
     }
 }

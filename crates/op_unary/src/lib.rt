@@ -2,9 +2,11 @@
 //! docs/SEMANTICS.md says what each gives. Rows come in no promised order.
 #![tactic(auto)]
 
+mod accumulating;
+mod accumulator;
 mod aggregating;
+mod by_row;
 mod cells;
-mod combining;
 mod distinct_rows;
 mod each_once;
 mod exploding;
@@ -13,23 +15,19 @@ mod first_places;
 mod group;
 mod grouping;
 mod groups;
+mod hashed_row;
 mod hashing;
-mod joining;
+mod input_row;
 mod keyed;
 mod keys;
-mod laws;
 mod marking;
+mod merging;
+mod merging_groups;
 mod operators;
-mod partial;
-mod placed;
 mod projecting;
-mod telling;
 #[cfg(test)]
 mod tests;
 
 pub use distinct_rows::DistinctRows;
 pub use groups::Groups;
-pub use laws::{
-    bags_are_kept, distinct_goes_by_parts, groups_go_by_keys, nodes_apply, rows_go_alone,
-};
 pub use operators::{apply, apply_owned};

@@ -4,13 +4,13 @@ ghost use Rattle.std.specs.Vec.Iter.{into_iter_items};
 ghost use Rattle.row_core.specs.Bags.{SameBag, one_of_each};
 ghost use Rattle.op_unary.specs.Distinct.{moved, rank, row_at, ArePlaces};
 
-use crate::placed::Placed;
+use crate::hashed_row::HashedRow;
 use row_core::{NoMemory, Row, Rows};
 use std::alloc::Global;
 use std::vec::IntoIter;
 
 /// Marks the rows at these places, which are one of each.
-pub fn mark(alloc: Global, rows: &[Row], firsts: &[Placed]) -> Result<Vec<bool>, NoMemory>
+pub fn mark(alloc: Global, rows: &[Row], firsts: &[HashedRow]) -> Result<Vec<bool>, NoMemory>
     requires places { ArePlaces rows.now firsts.now }
     requires firsts { SameBag (map (row_at rows.now) firsts.now) (one_of_each rows.now) }
     ensures length { IfOk result (λ marks. length marks.items ≡ length rows.now) }
@@ -43,14 +43,18 @@ fn next_mark(marks: &mut IntoIter<bool, Global>) -> bool
 }
 
 /// The places among the marked rows alone.
-pub fn renumbered(alloc: Global, marks: &[bool], firsts: &[Placed]) -> Result<Vec<Placed>, NoMemory>
+pub fn renumbered(
+    alloc: Global,
+    marks: &[bool],
+    firsts: &[HashedRow],
+) -> Result<Vec<HashedRow>, NoMemory>
     requires { All (λ first. first.place < length marks.now) firsts.now }
     ensures { IfOk result (λ all. all.items ≡ map (moved marks.now) firsts.now) }
 {
     let ranks = ranks(alloc, marks)?;
     let mut all = Vec::with_capacity(alloc, firsts.len())?;
     for first in firsts {
-        all.push(Placed {
+        all.push(HashedRow {
             hash: first.hash,
             place: ranks[first.place],
         })?;

@@ -1,15 +1,13 @@
 ghost use Rattle.std.specs.Prelude.{◌∷◌, [], All, IfOk, IsTrue, length};
 ghost use Rattle.row_core.specs.Bags.{SameBag};
+ghost use Rattle.operator_laws.specs.Applied.{applied};
 ghost use Rattle.plan_model.specs.Checks.{columns_fit};
-ghost use Rattle.op_unary.specs.Applied.{applied, is_unary};
+ghost use Rattle.plan_model.specs.Operators.{is_unary};
 
 use crate::aggregating::aggregate;
-use crate::cells::copies;
+use crate::by_row::{by_row, by_row_owned};
 use crate::distinct_rows::distinct_owned;
 use crate::each_once::distinct;
-use crate::exploding::{explode, explode_owned};
-use crate::filtering::{filter, filter_owned};
-use crate::projecting::{project, project_owned};
 use plan_model::Op;
 use row_core::{NoMemory, Rows};
 use std::alloc::Global;
@@ -23,16 +21,13 @@ pub fn apply(alloc: Global, op: &Op, rows: &Rows) -> Result<Rows, NoMemory>
     ensures { IfOk result (λ given. SameBag given (applied op.now rows.now)) }
 {
     match op {
-        Op::Filter { test } => filter(alloc, test, rows.as_slice()),
-        Op::Project { exprs } => project(alloc, exprs.as_slice(), rows.as_slice()),
-        Op::Explode { column, separator } => {
-            explode(alloc, *column, *separator, rows.as_slice())
-        }
-        Op::Union => copies(alloc, rows.as_slice()),
         Op::Aggregate { keys, aggs } => {
             aggregate(alloc, keys.as_slice(), aggs.as_slice(), rows.as_slice())
         }
         Op::Distinct => distinct(alloc, rows.as_slice()),
+        Op::Filter { .. } | Op::Project { .. } | Op::Explode { .. } | Op::Union => {
+            by_row(alloc, op, rows.as_slice())
+        }
         Op::Source { .. } | Op::Join { .. } | Op::Sink { .. } => unreachable!(),
     }
 }
@@ -45,14 +40,14 @@ pub fn apply_owned(alloc: Global, op: &Op, rows: Rows) -> Result<Rows, NoMemory>
     ensures { IfOk result (λ given. SameBag given (applied op.now rows)) }
 {
     match op {
-        Op::Filter { test } => filter_owned(alloc, test, rows),
-        Op::Project { exprs } => project_owned(alloc, exprs.as_slice(), rows),
-        Op::Explode { column, separator } => explode_owned(alloc, *column, *separator, rows),
-        Op::Union => Ok(rows),
         Op::Aggregate { keys, aggs } => {
             aggregate(alloc, keys.as_slice(), aggs.as_slice(), rows.as_slice())
         }
         Op::Distinct => distinct_owned(alloc, rows),
+        Op::Filter { .. } | Op::Project { .. } | Op::Explode { .. } => {
+            by_row_owned(alloc, op, rows)
+        }
+        Op::Union => Ok(rows),
         Op::Source { .. } | Op::Join { .. } | Op::Sink { .. } => unreachable!(),
     }
 }

@@ -1,6 +1,6 @@
 ghost use Rattle.std.specs.Prelude.{◌∷◌, [], All, IsTrue, length};
 ghost use Rattle.plan_model.specs.Checks.{columns_fit};
-ghost use Rattle.op_unary.specs.Applied.{is_unary};
+ghost use Rattle.plan_model.specs.Operators.{is_unary};
 
 use crate::hashing::hash_row;
 use crate::{DistinctRows, Groups, apply, apply_owned};
@@ -335,7 +335,7 @@ fn doubles(alloc: Global, size: i64) -> Result<Rows, NoMemory> {
 }
 
 #[test]
-fn many_groups_are_joined(rt: HostRuntime) -> Result<(), Fail> {
+fn many_groups_are_merged(rt: HostRuntime) -> Result<(), Fail> {
     let alloc = rt.alloc();
     let mut groups = Groups::new(alloc, &[0], &[Agg::Count]);
     for _ in 0..4 {

@@ -1,13 +1,9 @@
-pub mod Alikes
-pub mod ByPart
-pub mod Stepped
-pub mod Chains
-pub mod Defined
-pub mod Gathered
-pub mod Operated
-pub mod Slots
-pub mod Sound
-pub mod Steps
-pub mod Taken
-pub mod Texts
-pub mod WidthsKept
+mod ByBatch
+mod Frames
+mod Operated
+mod Ran
+mod Results
+mod Stages
+mod Steps
+mod Taken
+mod Unions

@@ -1,130 +1,85 @@
 -- What an operator gives on the rows of its inputs is the definition's bag.
-use Rattle.std.proofs.Common.{◌≡◌, ℕ, zero, suc, ◌<◌, true, List, [], ◌∷◌, length, map, get_or, All, IsTrue, refl, sym, subst, ◌∙◌, ap, arith, eqb-true}
+use Rattle.std.proofs.Common.{◌≡◌, ℕ, true, List, [], ◌∷◌, length, get_or, All, IsTrue, refl, sym, subst, ◌∙◌, ap, arith, eqb-true}
+use Rattle.std.proofs.lemmas.List.{append-nil}
 use Rattle.row_core.specs.Bags.{SameBag}
 use Rattle.row_core.specs.declared.bytes.Bytes.{Bytes}
-use Rattle.bag_laws.specs.Rows.{OneRow as Row}
-use Rattle.plan_model.specs.Checks.{takes, columns_fit}
-use Rattle.plan_model.specs.Joins.{joined}
-use Rattle.plan_model.specs.Plans.{Bag, bag_at, bag_of}
-use Rattle.plan_model.specs.declared.aggs.Aggs.{Aggs}
 use Rattle.row_core.specs.declared.columns.Columns.{Columns}
+use Rattle.bag_laws.specs.Rows.{OneRow as Row}
+use Rattle.operator_laws.proofs.Laws.{node_applies}
+use Rattle.operator_laws.specs.Applied.{applied}
+use Rattle.plan_model.proofs.Laws.{wide_at}
+use Rattle.plan_model.specs.Checks.{takes, columns_fit}
+use Rattle.plan_model.specs.Nodes.{IsGood, bag_widths}
+use Rattle.plan_model.specs.Operators.{is_row_wise, is_unary}
+use Rattle.plan_model.specs.Plans.{Bag, bag_at}
+use Rattle.plan_model.specs.Widths.{width_of}
+use Rattle.plan_model.specs.declared.aggs.Aggs.{Aggs}
 use Rattle.plan_model.specs.declared.join_kind.JoinKind.{JoinKind}
 use Rattle.plan_model.specs.declared.key_pairs.KeyPairs.{KeyPairs}
 use Rattle.plan_model.specs.declared.schema.Schema.{Schema}
 use Rattle.plan_model.specs.declared.op.Op.{Op}
 use Rattle.plan_model.specs.declared.op.Op.TheVariants.{Source, Filter, Project, Explode, Union, Aggregate, Distinct, Join, Sink}
-use Rattle.op_unary.specs.Applied.{applied, is_row_wise, is_unary}
-use Rattle.plan_eval.specs.Evaluated.{IsGood, takes_one}
-use Rattle.plan_eval.proofs.Alikes.{width_at}
-use Rattle.plan_eval.proofs.WidthsKept.{wide_at}
+use Rattle.plan_eval.specs.Evaluated.{IsOutput, bag_with}
 
-pub no_other : (op : Op) → ((table : Bytes) (columns : Schema) → op ≡ Source table columns → ⊥) → (op ≡ Union → ⊥)
-    → ((kind : JoinKind) (keys : KeyPairs) → op ≡ Join kind keys → ⊥) → ((name : Bytes) → op ≡ Sink name → ⊥) → takes_one op ≡ true
-no_other (Source table columns) source union join sink = absurd (source table columns refl)
-no_other (Filter test) source union join sink = refl
-no_other (Project exprs) source union join sink = refl
-no_other (Explode column separator) source union join sink = refl
-no_other Union source union join sink = absurd (union refl)
-no_other (Aggregate keys aggs) source union join sink = refl
-no_other Distinct source union join sink = refl
-no_other (Join kind keys) source union join sink = absurd (join kind keys refl)
-no_other (Sink name) source union join sink = absurd (sink name refl)
-
-pub one_unary : (op : Op) → takes_one op ≡ true → IsTrue (is_unary op)
-one_unary (Source table columns) one = cc
-one_unary (Filter test) one = refl
-one_unary (Project exprs) one = refl
-one_unary (Explode column separator) one = refl
-one_unary Union one = refl
-one_unary (Aggregate keys aggs) one = refl
-one_unary Distinct one = refl
-one_unary (Join kind keys) one = cc
-one_unary (Sink name) one = cc
-
-some_input : (op : Op) (n : ℕ) → takes_one op ≡ true → IsTrue (takes op n) → n ≡ 1
-some_input (Source table columns) n one holds = cc
-some_input (Filter test) n one holds = eqb-true n 1 holds
-some_input (Project exprs) n one holds = eqb-true n 1 holds
-some_input (Explode column separator) n one holds = eqb-true n 1 holds
-some_input Union n one holds = cc
-some_input (Aggregate keys aggs) n one holds = eqb-true n 1 holds
-some_input Distinct n one holds = eqb-true n 1 holds
-some_input (Join kind keys) n one holds = cc
-some_input (Sink name) n one holds = cc
-
-columns_first : (op : Op) (widths : List ℕ) → takes_one op ≡ true → columns_fit op (get_or widths 0 0 ∷ []) ≡ columns_fit op widths
-columns_first (Source table columns) widths one = cc
-columns_first (Filter test) widths one = refl
-columns_first (Project exprs) widths one = refl
-columns_first (Explode column separator) widths one = refl
-columns_first Union widths one = cc
-columns_first (Aggregate keys aggs) widths one = refl
-columns_first Distinct widths one = refl
-columns_first (Join kind keys) widths one = cc
-columns_first (Sink name) widths one = cc
-
-applied_is : (files : List ℕ → List (List ℕ)) (op : Op) (inputs : List Bag) → takes_one op ≡ true → applied op (bag_at inputs 0).rows ≡ (bag_of files op inputs).rows
-applied_is files (Source table columns) inputs one = cc
-applied_is files (Filter test) inputs one = refl
-applied_is files (Project exprs) inputs one = refl
-applied_is files (Explode column separator) inputs one = refl
-applied_is files Union inputs one = cc
-applied_is files (Aggregate keys aggs) inputs one = refl
-applied_is files Distinct inputs one = refl
-applied_is files (Join kind keys) inputs one = cc
-applied_is files (Sink name) inputs one = cc
-
--- what an operator on one input gives on the rows of that input
-module _ (bags : List Bag) (op : Op) (one : takes_one op ≡ true) (good : IsGood op bags) where
-  pub columns_given : All (λ row. IsTrue (columns_fit op (length row ∷ []))) (bag_at bags 0).rows
-  columns_given k d lt =
-      let long : length (get_or (bag_at bags 0).rows k d) ≡ get_or (map (λ bag. bag.width) bags) 0 0 = wide_at bags good.fit 0 k d lt ∙ width_at bags 0 in
-      ap (λ (n : ℕ). columns_fit op (n ∷ [])) long ∙ columns_first op (map (λ bag. bag.width) bags) one ∙ good.columns
-
-pub applied_here : (files : List ℕ → List (List ℕ)) (op : Op) (bags : List Bag) → takes_one op ≡ true → (made : List Row)
-    → SameBag made (applied op (bag_at bags 0).rows) → SameBag made (bag_of files op bags).rows
-applied_here files op bags one made same = subst (λ (rows : List Row). SameBag made rows) (applied_is files op bags one) same
-
--- where the operator is known to be a join
-pub join_is : (op : Op) (kind : JoinKind) (keys : KeyPairs) → op ≡ Join kind keys → (files : List ℕ → List (List ℕ)) (bags : List Bag) (made : List Row)
-    → SameBag made (joined keys (bag_at bags 0).width (bag_at bags 1).width (bag_at bags 0).rows (bag_at bags 1).rows kind)
-    → SameBag made (bag_of files op bags).rows
-join_is op kind keys is files bags made same = subst (λ (one : Op). SameBag made (bag_of files one bags).rows) (sym is) same
-
--- an operator that has inputs
-pub has_inputs : (op : Op) (n : ℕ) → ((table : Bytes) (columns : Schema) → op ≡ Source table columns → ⊥) → takes op n ≡ true → 0 < n
-has_inputs (Source table columns) n source number = absurd (source table columns refl)
-has_inputs (Filter test) n source number = let is = eqb-true n 1 number in omega (arith, is)
-has_inputs (Project exprs) n source number = let is = eqb-true n 1 number in omega (arith, is)
-has_inputs (Explode column separator) n source number = let is = eqb-true n 1 number in omega (arith, is)
-has_inputs Union zero source number = cc
-has_inputs Union (suc n) source number = omega arith
-has_inputs (Aggregate keys aggs) n source number = let is = eqb-true n 1 number in omega (arith, is)
-has_inputs Distinct n source number = let is = eqb-true n 1 number in omega (arith, is)
-has_inputs (Join kind keys) n source number = let is = eqb-true n 2 number in omega (arith, is)
-has_inputs (Sink name) n source number = let is = eqb-true n 1 number in omega (arith, is)
-
--- ---- a chain that an operator takes
-
-pub row_wise_else : (op : Op) → IsTrue (takes op 1) → ((keys : Columns) (aggs : Aggs) → op ≡ Aggregate keys aggs → ⊥) → (op ≡ Distinct → ⊥)
-    → ((name : Bytes) → op ≡ Sink name → ⊥) → IsTrue (is_row_wise op)
-row_wise_else (Source table columns) number aggregate distinct sink = cc
-row_wise_else (Filter test) number aggregate distinct sink = refl
-row_wise_else (Project exprs) number aggregate distinct sink = refl
-row_wise_else (Explode column separator) number aggregate distinct sink = refl
-row_wise_else Union number aggregate distinct sink = refl
-row_wise_else (Aggregate keys aggs) number aggregate distinct sink = absurd (aggregate keys aggs refl)
-row_wise_else Distinct number aggregate distinct sink = absurd (distinct refl)
-row_wise_else (Join kind keys) number aggregate distinct sink = cc
-row_wise_else (Sink name) number aggregate distinct sink = absurd (sink name refl)
-
+-- a good operator finds its columns in each row of its input
 pub columns_found : (op : Op) (bag : Bag) → IsGood op (bag ∷ []) → All (λ row. IsTrue (columns_fit op (length row ∷ []))) bag.rows
-columns_found (Source table columns) bag good = λ k d lt. refl
-columns_found (Filter test) bag good = columns_given (bag ∷ []) (Filter test) refl good
-columns_found (Project exprs) bag good = columns_given (bag ∷ []) (Project exprs) refl good
-columns_found (Explode column separator) bag good = columns_given (bag ∷ []) (Explode column separator) refl good
-columns_found Union bag good = λ k d lt. refl
-columns_found (Aggregate keys aggs) bag good = columns_given (bag ∷ []) (Aggregate keys aggs) refl good
-columns_found Distinct bag good = λ k d lt. refl
-columns_found (Join kind keys) bag good = let number = good.number in cc
-columns_found (Sink name) bag good = λ k d lt. refl
+columns_found op bag good k d lt = ap (λ (n : ℕ). columns_fit op (n ∷ [])) (wide_at (bag ∷ []) good.fit 0 k d lt) ∙ good.columns
+
+-- rows that an operator on one input gives
+pub output_of : (files : List ℕ → List (List ℕ)) (op : Op) (bag : Bag) (width : ℕ) (rows : List Row) → is_unary op ≡ true → IsGood op (bag ∷ []) → width ≡ width_of op (bag.width ∷ [])
+    → SameBag rows (applied op bag.rows) → IsOutput files op (bag ∷ []) (bag_with width rows)
+output_of files op bag width rows one good wide same = record {
+  width = wide;
+  rows = λ gives. subst (λ (all : List Row). SameBag rows all)
+      (ap (applied op) (sym (append-nil bag.rows)) ∙ sym (node_applies files op (bag ∷ []) one good.number)) same;
+}
+
+pub row_wise_else : (op : Op) → is_unary op ≡ true → ((keys : Columns) (aggs : Aggs) → op ≡ Aggregate keys aggs → ⊥) → (op ≡ Distinct → ⊥) → IsTrue (is_row_wise op)
+row_wise_else (Source table columns) one aggregate distinct = cc
+row_wise_else (Filter test) one aggregate distinct = refl
+row_wise_else (Project exprs) one aggregate distinct = refl
+row_wise_else (Explode column separator) one aggregate distinct = refl
+row_wise_else Union one aggregate distinct = refl
+row_wise_else (Aggregate keys aggs) one aggregate distinct = absurd (aggregate keys aggs refl)
+row_wise_else Distinct one aggregate distinct = absurd (distinct refl)
+row_wise_else (Join kind keys) one aggregate distinct = cc
+row_wise_else (Sink name) one aggregate distinct = cc
+
+-- what is neither a source, nor a join, nor a sink
+pub unary_else : (op : Op) → ((table : Bytes) (columns : Schema) → op ≡ Source table columns → ⊥) → ((kind : JoinKind) (keys : KeyPairs) → op ≡ Join kind keys → ⊥)
+    → ((name : Bytes) → op ≡ Sink name → ⊥) → is_unary op ≡ true
+unary_else (Source table columns) source join sink = absurd (source table columns refl)
+unary_else (Filter test) source join sink = refl
+unary_else (Project exprs) source join sink = refl
+unary_else (Explode column separator) source join sink = refl
+unary_else Union source join sink = refl
+unary_else (Aggregate keys aggs) source join sink = refl
+unary_else Distinct source join sink = refl
+unary_else (Join kind keys) source join sink = absurd (join kind keys refl)
+unary_else (Sink name) source join sink = absurd (sink name refl)
+
+-- ---- the inputs of an operator
+
+pub one_input : (inputs : List ℕ) → length inputs ≡ 1 → get_or inputs 0 0 ∷ [] ≡ inputs
+one_input [] long = absurd (omega (arith, long))
+one_input (x ∷ []) long = refl
+one_input (x ∷ y ∷ rest) long = absurd (omega (arith, long))
+
+pub two_inputs : (inputs : List ℕ) → length inputs ≡ 2 → get_or inputs 0 0 ∷ get_or inputs 1 0 ∷ [] ≡ inputs
+two_inputs [] long = absurd (omega (arith, long))
+two_inputs (x ∷ []) long = absurd (omega (arith, long))
+two_inputs (x ∷ y ∷ []) long = refl
+two_inputs (x ∷ y ∷ z ∷ rest) long = absurd (omega (arith, long))
+
+-- all but sources, unions and joins take one input
+pub takes_one_else : (op : Op) (n : ℕ) → ((table : Bytes) (columns : Schema) → op ≡ Source table columns → ⊥) → (op ≡ Union → ⊥)
+    → ((kind : JoinKind) (keys : KeyPairs) → op ≡ Join kind keys → ⊥) → IsTrue (takes op n) → n ≡ 1
+takes_one_else (Source table columns) n source union join takes = absurd (source table columns refl)
+takes_one_else (Filter test) n source union join takes = eqb-true n 1 takes
+takes_one_else (Project exprs) n source union join takes = eqb-true n 1 takes
+takes_one_else (Explode column separator) n source union join takes = eqb-true n 1 takes
+takes_one_else Union n source union join takes = absurd (union refl)
+takes_one_else (Aggregate keys aggs) n source union join takes = eqb-true n 1 takes
+takes_one_else Distinct n source union join takes = eqb-true n 1 takes
+takes_one_else (Join kind keys) n source union join takes = absurd (join kind keys refl)
+takes_one_else (Sink name) n source union join takes = eqb-true n 1 takes

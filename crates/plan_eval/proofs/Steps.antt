@@ -1,55 +1,34 @@
 -- One node more: its rows are the definition's, and so is the text so far.
-use Rattle.std.proofs.Common.{◌≡◌, ℕ, zero, suc, ◌+◌, ◌<◌, ◌≤◌, true, not, leb-true, ◌⊎◌, inl, inr, List, [], ◌∷◌, ◌++◌, length, map, get_or, All, IsTrue, refl, sym, subst, ◌∙◌, ap, arith, length-append}
+use Rattle.std.proofs.Common.{◌≡◌, ℕ, zero, suc, ◌+◌, ◌<◌, ◌≤◌, true, not, nat_lt, leb-true, ◌⊎◌, inl, inr, List, [], ◌∷◌, ◌++◌, length, map, get_or, All, IsTrue, refl, sym, subst, ◌∙◌, ap, arith, length-append}
 use Rattle.std.proofs.Math.Seq.{get_or-append_seam}
+use Rattle.std.proofs.lemmas.Bool.Decides.{nat_tests}
 use Rattle.std.proofs.lemmas.List.{length-map, map-append, append_assoc, append-nil, get_or_append_left}
 use Rattle.std.proofs.lemmas.List.Elements.{All-append, All-map}
 use Rattle.std.proofs.lemmas.List.Sorted.{All-permutation}
 use Rattle.std.proofs.lemmas.List.Sums.{AllPass-from_list_all}
 use Rattle.row_core.specs.Bags.{SameBag}
-use Rattle.bag_laws.proofs.Alike.{same_sym}
-use Rattle.bag_laws.proofs.Permutations.{permutation_of_same}
+use Rattle.bag_laws.proofs.Laws.{permutation_of_same, same_on, same_refl, same_sym}
 use Rattle.plan_model.specs.Checks.{takes, columns_fit, widths_agree, gives_rows, is_sink}
 use Rattle.plan_model.specs.Plans.{Bag, bag_at, bag_of, bags_from, bags_of, empty_bag, sink_section, sink_sections, committed_text}
 use Rattle.plan_model.specs.Widths.{width_of, widths_of, widths_from, input_widths}
 use Rattle.plan_model.specs.declared.node.Node.{Node}
 use Rattle.plan_model.specs.declared.op.Op.{Op}
 use Rattle.plan_model.specs.declared.op.Op.TheVariants.{Source, Filter, Project, Explode, Union, Aggregate, Distinct, Join, Sink}
-use Rattle.plan_eval.specs.Evaluated.{Alike, HasItsWidth, IsGood, KeepsBags}
-use Rattle.plan_eval.proofs.Alikes.{alike_itself, alike_on, by_bags, bag_width, width_at}
-use Rattle.plan_eval.proofs.Sound.{IsSound, gives_within}
-use Rattle.plan_eval.proofs.Texts.{section_same}
-use Rattle.plan_eval.proofs.WidthsKept.{bag_wide}
+use Rattle.plan_model.proofs.Laws.{bag_wide, bag_width, bags_long, bags_next, gives_within, new_at, old_at, width_at, widths_are, widths_long, widths_next}
+use Rattle.operator_laws.proofs.Laws.{bags_same, section_same}
+use Rattle.plan_eval.specs.Evaluated.{Stays}
+use Rattle.plan_model.specs.Nodes.{Alike, HasItsWidth, IsGood, IsGoodNode}
+
+alike_itself : (bag : Bag) → Alike bag bag
+alike_itself bag = record { width = refl; rows = same_refl bag.rows }
+
+alike_on : (bag other more : Bag) → Alike bag other → Alike other more → Alike bag more
+alike_on bag other more one two = record { width = one.width ∙ two.width; rows = same_on one.rows two.rows }
+
+lt_true : (m n : ℕ) → m < n → nat_lt m n ≡ true
+lt_true m n lt = grind (arith, nat_tests)
 
 -- ---- the definitions, one node more at a time
-
-widths_from-append : (widths : List ℕ) (before nodes : List Node) → widths_from widths (before ++ nodes) ≡ widths_from (widths_from widths before) nodes
-widths_from-append widths [] nodes = refl
-widths_from-append widths (node ∷ before) nodes = widths_from-append (widths ++ width_of node.op (input_widths widths node.inputs) ∷ []) before nodes
-
-widths_of-more : (before : List Node) (node : Node) → widths_of (before ++ node ∷ []) ≡ widths_of before ++ width_of node.op (input_widths (widths_of before) node.inputs) ∷ []
-widths_of-more before node = widths_from-append [] before (node ∷ [])
-
-length-widths_from : (widths : List ℕ) (nodes : List Node) → length (widths_from widths nodes) ≡ length widths + length nodes
-length-widths_from widths [] = omega arith
-length-widths_from widths (node ∷ nodes) =
-    let rest = length-widths_from (widths ++ width_of node.op (input_widths widths node.inputs) ∷ []) nodes in
-    let more = length-append widths (width_of node.op (input_widths widths node.inputs) ∷ []) in
-    omega (arith, rest, more)
-
-module _ (files : List ℕ → List (List ℕ)) where
-  pub bags_from-append : (bags : List Bag) (before nodes : List Node) → bags_from files bags (before ++ nodes) ≡ bags_from files (bags_from files bags before) nodes
-  bags_from-append bags [] nodes = refl
-  bags_from-append bags (node ∷ before) nodes = bags_from-append (bags ++ bag_of files node.op (map (bag_at bags) node.inputs) ∷ []) before nodes
-
-  bags_of-more : (before : List Node) (node : Node) → bags_of files (before ++ node ∷ []) ≡ bags_of files before ++ bag_of files node.op (map (bag_at (bags_of files before)) node.inputs) ∷ []
-  bags_of-more before node = bags_from-append [] before (node ∷ [])
-
-  pub length-bags_from : (bags : List Bag) (nodes : List Node) → length (bags_from files bags nodes) ≡ length bags + length nodes
-  length-bags_from bags [] = omega arith
-  length-bags_from bags (node ∷ nodes) =
-      let rest = length-bags_from (bags ++ bag_of files node.op (map (bag_at bags) node.inputs) ∷ []) nodes in
-      let more = length-append bags (bag_of files node.op (map (bag_at bags) node.inputs) ∷ []) in
-      omega (arith, rest, more)
 
 sections-more : (nodes : List Node) (bags : List Bag) (node : Node) (bag : Bag) → length bags ≡ length nodes
     → sink_sections (nodes ++ node ∷ []) (bags ++ bag ∷ []) ≡ sink_sections nodes bags ++ sink_section node.op bag
@@ -73,12 +52,6 @@ section_of files (Sink name) inputs = refl
 
 -- ---- lists that grow by one
 
-pub old_at : (bags : List Bag) (bag : Bag) (place : ℕ) → place < length bags → bag_at (bags ++ bag ∷ []) place ≡ bag_at bags place
-old_at bags bag place lt = get_or_append_left bags (bag ∷ []) empty_bag place lt
-
-pub new_at : (bags : List Bag) (bag : Bag) (place : ℕ) → place ≡ length bags → bag_at (bags ++ bag ∷ []) place ≡ bag
-new_at bags bag place is = ap (bag_at (bags ++ bag ∷ [])) is ∙ get_or-append_seam bags bag [] empty_bag
-
 gives-more : (before : List Node) (node : Node) (place : ℕ) → gives_rows (before ++ node ∷ []) place ≡ true
     → (gives_rows before place ≡ true) ⊎ ((place ≡ length before) × (not (is_sink node.op) ≡ true))
 gives-more [] node zero gives = inr (refl, gives)
@@ -94,10 +67,6 @@ narrow_at : (widths : List ℕ) → All (λ w. w ≤ 256) widths → (place : �
 narrow_at [] narrow place = omega arith
 narrow_at (width ∷ widths) narrow zero = narrow 0 width (omega arith)
 narrow_at (width ∷ widths) narrow (suc place) = narrow_at widths (λ k d lt. narrow (suc k) d (omega (arith, lt))) place
-
-pub widths_are : (bags : List Bag) (inputs : List ℕ) → map (λ bag. bag.width) (map (bag_at bags) inputs) ≡ input_widths (map (λ bag. bag.width) bags) inputs
-widths_are bags [] = refl
-widths_are bags (input ∷ inputs) = λ i. width_at bags input i ∷ widths_are bags inputs i
 
 pub along : (bags others : List Bag) (inputs : List ℕ) → All (λ input. Alike (bag_at bags input) (bag_at others input)) inputs
     → (place : ℕ) → Alike (bag_at (map (bag_at bags) inputs) place) (bag_at (map (bag_at others) inputs) place)
@@ -122,7 +91,7 @@ pub record IsEvaluated (files : List ℕ → List (List ℕ)) (last : List ℕ) 
 
 pub long_found : (files : List ℕ → List (List ℕ)) (last : List ℕ) (before : List Node) (found : List Bag) → IsEvaluated files last before found → length found ≡ length before
 long_found files last before found so_far =
-    let one = length-map found (λ (bag : Bag). bag.width) in let all = length-widths_from [] before in
+    let one = length-map found (λ (bag : Bag). bag.width) in let all = widths_long before in
     let same : length (map (λ bag. bag.width) found) ≡ length (widths_of before) = ap (λ (widths : List ℕ). length widths) so_far.widths in
     omega (arith, one, all, same)
 
@@ -134,7 +103,7 @@ none_evaluated files last = record {
   fit = λ place gives taken. cc;
 }
 
-module _ (files : List ℕ → List (List ℕ)) (last : List ℕ) (before : List Node) (found : List Bag) (so_far : IsEvaluated files last before found) (node : Node) (sound : IsSound before node)
+module _ (files : List ℕ → List (List ℕ)) (last : List ℕ) (before : List Node) (found : List Bag) (so_far : IsEvaluated files last before found) (node : Node) (sound : IsGoodNode before node)
     (taken : All (λ input. length before ≤ get_or last input 0) node.inputs) where
   abbrev defined : List Bag
   defined = bags_of files before
@@ -146,10 +115,10 @@ module _ (files : List ℕ → List (List ℕ)) (last : List ℕ) (before : List
   owed = map (bag_at defined) node.inputs
 
   long_defined : length defined ≡ length before
-  long_defined = let all = length-bags_from files [] before in omega (arith, all)
+  long_defined = let all = bags_long files before in omega (arith, all)
 
   each_gives : All (λ input. gives_rows before input ≡ true) node.inputs
-  each_gives = AllPass-from_list_all (gives_rows before) node.inputs sound.rows
+  each_gives = sound.rows
 
   pub earlier : All (λ input. input < length found) node.inputs
   earlier k d lt =
@@ -166,7 +135,7 @@ module _ (files : List ℕ → List (List ℕ)) (last : List ℕ) (before : List
     agree = ap (widths_agree node.op) given_widths ∙ sound.agree;
     narrow = subst (λ (widths : List ℕ). All (λ width. width ≤ 256) widths) (sym given_widths)
         (All-map (λ width. width ≤ 256) (λ input. get_or (widths_of before) input 0) node.inputs (λ k d lt. narrow_at (widths_of before) so_far.narrow (get_or node.inputs k d)));
-    wide = subst (λ (widths : List ℕ). width_of node.op widths ≤ 256) (sym given_widths) (leb-true (width_of node.op (input_widths (widths_of before) node.inputs)) 256 sound.wide);
+    wide = subst (λ (widths : List ℕ). width_of node.op widths ≤ 256) (sym given_widths) sound.narrow;
     fit = All-map HasItsWidth (bag_at found) node.inputs (λ k d lt. so_far.fit (get_or node.inputs k d) (each_gives k d lt) (taken k d lt));
   }
 
@@ -176,14 +145,14 @@ module _ (files : List ℕ → List (List ℕ)) (last : List ℕ) (before : List
   -- the text with this node's section
   pub text_more : committed_text files (before ++ node ∷ []) ≡ committed_text files before ++ sink_section node.op (bag_at given 0)
   text_more =
-      ap (sink_sections (before ++ node ∷ [])) (bags_of-more files before node)
+      ap (sink_sections (before ++ node ∷ [])) (bags_next files before node)
       ∙ sections-more before defined node (bag_of files node.op owed) long_defined
       ∙ ap (λ (section : List ℕ). committed_text files before ++ section)
       (section_of files node.op owed ∙ section_same node.op (bag_at owed 0) (bag_at given 0) (same_sym (inputs_alike 0).rows))
 
   module _ (made : Bag) (width : made.width ≡ width_of node.op (map (λ bag. bag.width) given))
       (rows : IsTrue (not (is_sink node.op)) → SameBag made.rows (bag_of files node.op given).rows)
-      (stays : List Bag) (kept : KeepsBags (length before) last found stays) where
+      (stays : List Bag) (kept : Stays (λ place. nat_lt (length before) (get_or last place 0) ≡ true) found stays) where
     long_stays : length stays ≡ length before
     long_stays = let one = length-map stays (λ (bag : Bag). bag.width) in let other = length-map found (λ (bag : Bag). bag.width) in
         let same : length (map (λ bag. bag.width) stays) ≡ length (map (λ bag. bag.width) found) = ap (λ (widths : List ℕ). length widths) kept.widths in
@@ -194,7 +163,7 @@ module _ (files : List ℕ → List (List ℕ)) (last : List ℕ) (before : List
 
     made_alike : not (is_sink node.op) ≡ true → Alike made (bag_of files node.op owed)
     made_alike gives = alike_on made (bag_of files node.op given) (bag_of files node.op owed)
-        (record { width = made_width; rows = rows gives }) (by_bags files node.op given owed inputs_alike)
+        (record { width = made_width; rows = rows gives }) (bags_same files node.op given owed inputs_alike)
 
     made_fits : not (is_sink node.op) ≡ true → HasItsWidth made
     made_fits gives = fits_too (bag_of files node.op given) made made_width (rows gives) (bag_wide files node.op given good)
@@ -203,13 +172,13 @@ module _ (files : List ℕ → List (List ℕ)) (last : List ℕ) (before : List
     more_widths =
         map-append (λ (bag : Bag). bag.width) stays (made ∷ [])
         ∙ (λ i. (kept.widths ∙ so_far.widths) i ++ (width ∙ ap (width_of node.op) given_widths) i ∷ [])
-        ∙ sym (widths_of-more before node)
+        ∙ sym (widths_next before node)
 
     more_narrow : All (λ width. width ≤ 256) (widths_of (before ++ node ∷ []))
     more_narrow =
         let last = width_of node.op (input_widths (widths_of before) node.inputs) in
-        subst (λ (widths : List ℕ). All (λ width. width ≤ 256) widths) (sym (widths_of-more before node))
-        (All-append (λ width. width ≤ 256) (widths_of before) (last ∷ []) so_far.narrow (one_narrow last (leb-true last 256 sound.wide)))
+        subst (λ (widths : List ℕ). All (λ width. width ≤ 256) widths) (sym (widths_next before node))
+        (All-append (λ width. width ≤ 256) (widths_of before) (last ∷ []) so_far.narrow (one_narrow last sound.narrow))
 
     -- a node that is still to be taken keeps its bag
     old_stays : (place : ℕ) → place < length before → bag_at (stays ++ made ∷ []) place ≡ bag_at stays place
@@ -218,7 +187,7 @@ module _ (files : List ℕ → List (List ℕ)) (last : List ℕ) (before : List
     stays_alike : (place : ℕ) → length (before ++ node ∷ []) ≤ get_or last place 0 → Alike (bag_at stays place) (bag_at found place)
     stays_alike place later = record {
       width = width_at stays place ∙ ap (λ (widths : List ℕ). get_or widths place 0) kept.widths ∙ sym (width_at found place);
-      rows = kept.others place (let more = length-append before (node ∷ []) in omega (arith, later, more));
+      rows = kept.rows place (lt_true (length before) (get_or last place 0) (let more = length-append before (node ∷ []) in omega (arith, later, more)));
     }
 
     before_too : (place : ℕ) → length (before ++ node ∷ []) ≤ get_or last place 0 → length before ≤ get_or last place 0
@@ -254,6 +223,6 @@ module _ (files : List ℕ → List (List ℕ)) (last : List ℕ) (before : List
     one_more = record {
       widths = more_widths;
       narrow = more_narrow;
-      alike = λ place gives later. subst (λ (bags : List Bag). Alike (bag_at (stays ++ made ∷ []) place) (bag_at bags place)) (sym (bags_of-more files before node)) (more_alike place gives later);
+      alike = λ place gives later. subst (λ (bags : List Bag). Alike (bag_at (stays ++ made ∷ []) place) (bag_at bags place)) (sym (bags_next files before node)) (more_alike place gives later);
       fit = more_fit;
     }

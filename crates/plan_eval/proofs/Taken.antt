@@ -4,8 +4,9 @@ use Rattle.std.proofs.lemmas.List.{get_or_default}
 use Rattle.std.proofs.lemmas.List.Sums.{AllPass-from_list_all}
 use Rattle.plan_model.specs.Checks.{gives_rows}
 use Rattle.plan_model.specs.declared.node.Node.{Node}
+use Rattle.plan_model.specs.Nodes.{IsGoodNode}
+use Rattle.plan_model.proofs.Laws.{gives_within}
 use Rattle.plan_eval.specs.Takers.{AreLast}
-use Rattle.plan_eval.proofs.Sound.{IsSound, gives_within}
 
 module _ (nodes : List Node) where
   -- the last takers of what these nodes take
@@ -34,11 +35,11 @@ module _ (nodes : List Node) where
   ]
 
   -- a node takes rows that are kept for it
-  pub taken_here : (last : List ℕ) (k : ℕ) (node : Node) → AreLast nodes last → k < length nodes → node ≡ slice_index_or nodes k node → IsSound (take k nodes) node
+  pub taken_here : (last : List ℕ) (k : ℕ) (node : Node) → AreLast nodes last → k < length nodes → node ≡ slice_index_or nodes k node → IsGoodNode (take k nodes) node
       → All (λ input. length (take k nodes) ≤ get_or last input 0) node.inputs
   taken_here last k node are lt is sound i d low =
       let long : length (take k nodes) ≡ k = length-take-le k nodes (omega (arith, lt)) in
       let within : get_or node.inputs i d < length (take k nodes) =
-      gives_within (take k nodes) (get_or node.inputs i d) (AllPass-from_list_all (gives_rows (take k nodes)) node.inputs sound.rows i d low) in
+      gives_within (take k nodes) (get_or node.inputs i d) (sound.rows i d low) in
       let le : k ≤ get_or last (get_or node.inputs i d) 0 = are.taken k node lt is i d low (omega (arith, within, long, lt)) in
       omega (arith, le, long)

@@ -1,119 +1,59 @@
--- The rows of nodes as they are found, beside the bags of the definition.
-use Rattle.std.specs.Prelude.{◌≡◌, ◌≢◌, ℕ, ◌≤◌, ◌<◌, Bool, true, false, not, List, [], ◌∷◌, length, map, get_or, slice_get, All, IsTrue, Option, Some, None}
-use Rattle.std.specs.Option.{option_map_or}
+-- What running a node does, beside the bags of the definition.
+use Rattle.std.specs.Prelude.{◌≡◌, ℕ, ◌<◌, nat_eq, nat_lt, Bool, not, ◌||◌, List, ◌++◌, length, map, get_or, slice_set, All, IsTrue, if◌then◌else◌}
+use Rattle.std.specs.List.{list_any}
 use Rattle.row_core.specs.Bags.{SameBag}
 use Rattle.row_core.specs.declared.value.Value.{Value}
-use Rattle.plan_model.specs.Checks.{is_sink, takes, columns_fit, widths_agree}
-use Rattle.plan_model.specs.Plans.{Bag, bag_at, bag_of}
+use Rattle.plan_model.specs.Nodes.{IsGood, bag_widths}
+use Rattle.plan_model.specs.Operators.{is_sink}
+use Rattle.plan_model.specs.Plans.{Bag, bag_at, bag_of, sink_section}
 use Rattle.plan_model.specs.Widths.{width_of}
-use Rattle.plan_model.specs.declared.node.Node.{Node}
 use Rattle.plan_model.specs.declared.op.Op.{Op}
-use Rattle.plan_model.specs.declared.op.Op.TheVariants.{Source, Filter, Project, Explode, Union, Aggregate, Distinct, Join, Sink}
-use Rattle.plan_eval.specs.declared.found.Found.{Found}
-use Rattle.plan_eval.specs.declared.made.Made.{Made}
-use Rattle.plan_eval.specs.declared.node_rows.NodeRows.{NodeRows}
+use Rattle.plan_eval.specs.declared.evaluation.Evaluation.{Evaluation}
 
 abbrev pub bag_with : ℕ → List (List Value) → Bag
 bag_with width rows = record { width = width; rows = rows }
 
-abbrev pub as_bag : NodeRows → Bag
-as_bag node = record { width = node.width; rows = node.rows }
-
--- all widths stay, and the rows of all nodes but this one
-pub record LosesOnly (place : ℕ) (nodes left : List NodeRows) : Type 0 where
-  pub widths : map (λ bag. bag.width) (map as_bag left) ≡ map (λ bag. bag.width) (map as_bag nodes)
-  pub others : (other : ℕ) → other ≢ place → bag_at (map as_bag left) other ≡ bag_at (map as_bag nodes) other
-
--- all widths stay, and the rows of all nodes but these two
-pub record LosesBoth (first second : ℕ) (nodes left : List NodeRows) : Type 0 where
-  pub widths : map (λ bag. bag.width) (map as_bag left) ≡ map (λ bag. bag.width) (map as_bag nodes)
-  pub others : (other : ℕ) → other ≢ first → other ≢ second → bag_at (map as_bag left) other ≡ bag_at (map as_bag nodes) other
-
--- all widths stay, and the rows of each node that one behind this place takes
-pub record Keeps (place : ℕ) (last : List ℕ) (nodes left : List NodeRows) : Type 0 where
-  pub widths : map (λ bag. bag.width) (map as_bag left) ≡ map (λ bag. bag.width) (map as_bag nodes)
-  pub others : (other : ℕ) → place < get_or last other 0 → bag_at (map as_bag left) other ≡ bag_at (map as_bag nodes) other
-
--- the rows that a chain is yet to give, where there is one, in place of the node's own
-abbrev pub with_chain : Option (List (List Value)) → Bag → Bag
-with_chain None bag = bag
-with_chain (Some rows) bag = record { width = bag.width; rows = rows }
-
--- the bags of the nodes, some of which are yet to be given
-abbrev pub bags_found : List NodeRows → List (Option (List (List Value))) → List Bag
-bags_found [] chains = []
-bags_found (node ∷ nodes) [] = as_bag node ∷ bags_found nodes []
-bags_found (node ∷ nodes) (chain ∷ chains) = with_chain chain (as_bag node) ∷ bags_found nodes chains
-
--- all widths stay, and all bags but the one at this place
-pub record LosesBag (place : ℕ) (bags left : List Bag) : Type 0 where
-  pub widths : map (λ bag. bag.width) left ≡ map (λ bag. bag.width) bags
-  pub others : (other : ℕ) → other ≢ place → bag_at left other ≡ bag_at bags other
-
--- equal bags in each place
-pub record AreAlike (bags others : List Bag) : Type 0 where
-  pub widths : map (λ bag. bag.width) others ≡ map (λ bag. bag.width) bags
-  pub rows : (place : ℕ) → SameBag (bag_at others place).rows (bag_at bags place).rows
-
--- all widths stay, and the bag of each node that one behind this place takes
-pub record KeepsBags (place : ℕ) (last : List ℕ) (bags left : List Bag) : Type 0 where
-  pub widths : map (λ bag. bag.width) left ≡ map (λ bag. bag.width) bags
-  pub others : (other : ℕ) → place < get_or last other 0 → SameBag (bag_at left other).rows (bag_at bags other).rows
+-- all widths stay, and the bags at the places that are kept
+pub record Stays (kept : ℕ → Type 0) (old new : List Bag) : Type 0 where
+  pub widths : bag_widths new ≡ bag_widths old
+  pub rows : (place : ℕ) → kept place → SameBag (bag_at new place).rows (bag_at old place).rows
 
 -- the bags of these inputs
-abbrev pub inputs_in : List NodeRows → List ℕ → List Bag
-inputs_in nodes inputs = map (bag_at (map as_bag nodes)) inputs
+abbrev pub inputs_in : Evaluation → List ℕ → List Bag
+inputs_in e inputs = map (bag_at e.outputs.items) inputs
 
--- the same rows equally often, of one width
-pub record Alike (bag other : Bag) : Type 0 where
-  pub width : bag.width ≡ other.width
-  pub rows : SameBag bag.rows other.rows
+-- some node behind the next one takes the rows at this place
+abbrev pub is_taken_later : Evaluation → ℕ → Bool
+is_taken_later e place = nat_lt (length e.outputs.items) (get_or e.last.items place 0)
 
--- each row has the bag's width
-abbrev pub HasItsWidth : Bag → Type 0
-HasItsWidth bag = All (λ row. length row ≡ bag.width) bag.rows
+-- a later node takes the rows at this place, or the next one again, among these further inputs
+abbrev pub is_needed : Evaluation → ℕ → List ℕ → Bool
+is_needed e place further = is_taken_later e place || list_any (nat_eq place) further
 
--- the bags of all nodes so far
-abbrev pub bags_in : Found → List Bag
-bags_in found = bags_found found.done.items found.chains.items
+-- the bags with these rows at a place, if they are taken later
+abbrev pub with_kept : Evaluation → ℕ → List (List Value) → List Bag
+with_kept e place rows =
+    if is_taken_later e place
+    then slice_set e.outputs.items place (bag_with (bag_at e.outputs.items place).width rows)
+    else e.outputs.items
 
--- the bags of these inputs, some of which are yet to be given
-abbrev pub given_in : Found → List ℕ → List Bag
-given_in found inputs = map (bag_at (bags_in found)) inputs
+-- the bag is what the operator gives on these inputs; that of a sink is left open
+pub record IsOutput (files : List ℕ → List (List ℕ)) (op : Op) (inputs : List Bag) (bag : Bag) : Type 0 where
+  pub width : bag.width ≡ width_of op (bag_widths inputs)
+  pub rows : IsTrue (not (is_sink op)) → SameBag bag.rows (bag_of files op inputs).rows
 
--- each node has a place for its chain
-abbrev pub HasPlaces : Found → Type 0
-HasPlaces found = length found.chains.items ≡ length found.done.items
+-- the operator may run on these inputs
+pub record MayRun (op : Op) (inputs : List ℕ) (e : Evaluation) : Type 0 where
+  pub earlier : All (λ input. input < length e.outputs.items) inputs
+  pub good : IsGood op (inputs_in e inputs)
 
-abbrev pub bag_made : Made → Bag
-bag_made made = with_chain made.chain (as_bag made.node)
+-- the bags that are taken later stay
+pub record Keeps (old new : Evaluation) : Type 0 where
+  pub outputs : Stays (λ place. IsTrue (is_taken_later old place)) old.outputs.items new.outputs.items
+  pub last : new.last.items ≡ old.last.items
 
--- the bag is what the operator gives on these; that of a sink is left open
-pub record IsGiven (files : List ℕ → List (List ℕ)) (op : Op) (given : List Bag) (bag : Bag) : Type 0 where
-  pub width : bag.width ≡ width_of op (map (λ bag. bag.width) given)
-  pub rows : IsTrue (not (is_sink op)) → SameBag bag.rows (bag_of files op given).rows
-
--- an operator that nothing is wrong with, on these inputs
-pub record IsGood (op : Op) (inputs : List Bag) : Type 0 where
-  pub number : IsTrue (takes op (length inputs))
-  pub columns : IsTrue (columns_fit op (map (λ bag. bag.width) inputs))
-  pub agree : IsTrue (widths_agree op (map (λ bag. bag.width) inputs))
-  pub narrow : All (λ width. width ≤ 256) (map (λ bag. bag.width) inputs)
-  pub wide : width_of op (map (λ bag. bag.width) inputs) ≤ 256
-  pub fit : All HasItsWidth inputs
-
--- a place of a sink
-abbrev pub sink_at : List Node → ℕ → Bool
-sink_at nodes place = option_map_or (λ node. is_sink node.op) (slice_get nodes place) false
-
--- an operator on one input
-abbrev pub takes_one : Op → Bool
-takes_one (Source table columns) = false
-takes_one (Filter test) = true
-takes_one (Project exprs) = true
-takes_one (Explode column separator) = true
-takes_one Union = false
-takes_one (Aggregate keys aggs) = true
-takes_one Distinct = true
-takes_one (Join kind keys) = false
-takes_one (Sink name) = false
+-- the operator has run on these inputs and gives the bag
+pub record HasRun (files : List ℕ → List (List ℕ)) (op : Op) (inputs : List ℕ) (old new : Evaluation) (bag : Bag) : Type 0 where
+  pub output : IsOutput files op (inputs_in old inputs) bag
+  pub kept : Keeps old new
+  pub text : new.text ≡ old.text ++ sink_section op (bag_at (inputs_in old inputs) 0)

@@ -1,4 +1,5 @@
-pub mod Chains
 pub mod Evaluated
+pub mod Outputs
+pub mod Pipelines
 pub mod Tables
 pub mod Takers

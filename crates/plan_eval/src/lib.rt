@@ -3,36 +3,26 @@
 #![tactic(auto)]
 
 mod answering;
-mod applying;
-mod by_part;
-mod chain;
-mod done;
+mod batches;
+mod collecting;
 mod evaluation;
-mod file_part;
+mod file_batch;
 mod files;
-mod found;
-mod gathering;
-mod laws;
-mod made;
-mod making;
+mod join_rule;
+mod node_output;
 mod node_rows;
-mod over_chain;
-mod parts;
+mod pipeline;
 mod reading;
-mod ready_step;
-mod sections;
-mod sources;
-mod step;
+mod ready_stage;
+mod scan;
+mod stage;
 mod table_files;
 mod table_rows;
 mod takers;
-mod taking;
 #[cfg(test)]
 mod tests;
-mod unread;
 
 pub use answering::answer;
 pub use files::Files;
-pub use laws::{nodes_go_by_bags, nodes_stand_on_inputs, rows_have_widths, sections_go_by_bags};
 pub use table_files::TableFiles;
 pub use table_rows::TableRows;

@@ -1,9 +1,9 @@
 ghost use Rattle.std.specs.Prelude.{◌≡◌, ◌++◌, map, IfOk, OnOk};
 ghost use Rattle.std.specs.List.{flat_map};
-ghost use Rattle.plan_eval.specs.Chains.{rows_in, rows_unread};
+ghost use Rattle.plan_eval.specs.Pipelines.{batch_rows, scan_rows};
 
-use crate::file_part::FilePart;
-use crate::unread::Unread;
+use crate::file_batch::FileBatch;
+use crate::scan::Scan;
 use plan_model::{Column, Kind};
 use row_core::NoMemory;
 use std::alloc::Global;
@@ -18,9 +18,10 @@ pub fn kinds_of(alloc: Global, columns: &[Column]) -> Result<Vec<Kind>, NoMemory
 /// The files of these tables, one table after the other.
 pub fn files_in_turn<'c>(
     alloc: Global,
-    tables: &'c [Unread<'c>],
-) -> Result<Vec<FilePart<'c>>, NoMemory>
-    ensures { IfOk result (λ files. flat_map rows_in files.items ≡ flat_map rows_unread tables.now) }
+    tables: &'c [Scan<'c>],
+) -> Result<Vec<FileBatch<'c>>, NoMemory>
+    ensures { IfOk result (λ files. flat_map batch_rows files.items
+        ≡ flat_map scan_rows tables.now) }
 {
     let mut files = Vec::new(alloc);
     for table in tables {
@@ -29,12 +30,13 @@ pub fn files_in_turn<'c>(
     Ok(files)
 }
 
-fn push_files<'c>(table: &'c Unread<'c>, files: &mut Vec<FilePart<'c>>) -> Result<(), NoMemory>
-    ensures { OnOk result (flat_map rows_in files.new.items ≡ flat_map rows_in files.old.items ++ rows_unread table.now) }
+fn push_files<'c>(table: &'c Scan<'c>, files: &mut Vec<FileBatch<'c>>) -> Result<(), NoMemory>
+    ensures { OnOk result (flat_map batch_rows files.new.items
+        ≡ flat_map batch_rows files.old.items ++ scan_rows table.now) }
 {
     for bytes in table.files {
         let kinds = &table.kinds;
-        files.push(FilePart { bytes, kinds })?;
+        files.push(FileBatch { bytes, kinds })?;
     }
     Ok(())
 }

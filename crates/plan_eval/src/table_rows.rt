@@ -43,7 +43,8 @@ impl TableRows {
 
 /// The files of the first entry of a table, none where there is no entry.
 pub fn files_in<'a>(tables: &'a [TableFiles], name: &Bytes) -> Option<&'a Files>
-    ensures { MatchOption result (files_of tables.now name.now ≡ []) (λ files. files.now ≡ files_of tables.now name.now) }
+    ensures { MatchOption result (files_of tables.now name.now ≡ []) (λ files. files.now
+        ≡ files_of tables.now name.now) }
 {
     for table in tables {
         if table.table.equals(name) {

@@ -1,4 +1,4 @@
-ghost use Rattle.std.specs.Prelude.{◌≡◌, ◌≤◌, ◌<◌, ℕ, All, IfOk, IsTrue, get_or, length};
+ghost use Rattle.std.specs.Prelude.{◌≡◌, ◌≤◌, ◌<◌, ℕ, All, IfOk, get_or, length};
 ghost use Rattle.plan_eval.specs.Takers.{AreLast};
 
 use plan_model::Node;
@@ -17,21 +17,12 @@ pub fn last_takers(alloc: Global, nodes: &[Node]) -> Result<Vec<usize>, NoMemory
     Ok(last)
 }
 
-/// Whether no node behind this place takes the rows of the input.
-pub fn takes_last(place: usize, last: &[usize], input: u32) -> bool
-    ensures { IsTrue result → get_or last.now input 0 ≤ place }
-{
-    match last.get(input as usize) {
-        Some(taker) => *taker <= place,
-        None => true,
-    }
-}
-
 // Notes that the node at this place takes the inputs.
 fn mark(last: &mut Vec<usize>, inputs: &[u32], place: usize)
     ensures long { length last.new.items ≡ length last.old.items }
     ensures raised { (other : ℕ) → get_or last.old.items other 0 ≤ get_or last.new.items other 0 }
-    ensures marked { All (λ input. input < length last.old.items → place ≤ get_or last.new.items input 0) inputs.now }
+    ensures marked { All (λ input. input < length last.old.items
+        → place ≤ get_or last.new.items input 0) inputs.now }
 {
     for input in inputs {
         raise(last, *input as usize, place);

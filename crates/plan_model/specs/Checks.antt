@@ -4,6 +4,7 @@ use Rattle.std.specs.List.{flat_map, list_all, list_any}
 use Rattle.std.specs.Option.{option_map_or}
 use Rattle.std.specs.Str.{bytes_eq}
 use Rattle.row_core.specs.Exprs.{columns_within, pred_within}
+pub use Rattle.plan_model.specs.Operators.{is_sink, may_rebalance}
 use Rattle.plan_model.specs.Widths.{width_of, widths_of, input_widths}
 use Rattle.plan_model.specs.declared.agg.Agg.{Agg}
 use Rattle.plan_model.specs.declared.agg.Agg.TheVariants.{Count, Sum, Min, Max}
@@ -14,23 +15,14 @@ use Rattle.plan_model.specs.declared.plan_fault.PlanFault.{PlanFault}
 use Rattle.plan_model.specs.declared.plan_kind.PlanKind.{PlanKind}
 use Rattle.plan_model.specs.declared.plan_kind.PlanKind.TheVariants.{BadInput, NoKeys, BadShip, BadColumn, BadWidth, TooWide, NoSink, Dangling, SameSink}
 
-abbrev pub is_sink : Op → Bool
-is_sink (Sink name) = true
-is_sink _ = false
-
 -- ---- one node
 
 -- how many inputs an operator takes
 abbrev pub takes : Op → ℕ → Bool
 takes (Source table columns) n = nat_eq n 0
-takes (Filter test) n = nat_eq n 1
-takes (Project exprs) n = nat_eq n 1
-takes (Explode column separator) n = nat_eq n 1
 takes Union n = nat_le 2 n && nat_le n 64
-takes (Aggregate keys aggs) n = nat_eq n 1
-takes Distinct n = nat_eq n 1
 takes (Join kind keys) n = nat_eq n 2
-takes (Sink name) n = nat_eq n 1
+takes _ n = nat_eq n 1
 
 -- a place of a node before, and not of a sink
 abbrev pub gives_rows : List Node → ℕ → Bool
@@ -46,18 +38,6 @@ has_keys (Aggregate keys aggs) = is_some_of keys
 has_keys (Join kind keys) = is_some_of keys
 has_keys _ = true
 
--- whether the rows for an operator may be spread anew over its subtasks
-abbrev pub may_rebalance : Op → Bool
-may_rebalance (Source table columns) = false
-may_rebalance (Filter test) = true
-may_rebalance (Project exprs) = true
-may_rebalance (Explode column separator) = true
-may_rebalance Union = false
-may_rebalance (Aggregate keys aggs) = false
-may_rebalance Distinct = false
-may_rebalance (Join kind keys) = false
-may_rebalance (Sink name) = true
-
 -- the column that an aggregate looks at is below the width
 abbrev pub agg_within : ℕ → Agg → Bool
 agg_within width Count = true
@@ -67,15 +47,12 @@ agg_within width (Max column) = nat_lt column width
 
 -- each column that an operator names is below the width of its input
 abbrev pub columns_fit : Op → List ℕ → Bool
-columns_fit (Source table columns) widths = true
 columns_fit (Filter test) widths = pred_within (get_or widths 0 0) test
 columns_fit (Project exprs) widths = list_all (columns_within (get_or widths 0 0)) exprs
 columns_fit (Explode column separator) widths = nat_lt column (get_or widths 0 0)
-columns_fit Union widths = true
 columns_fit (Aggregate keys aggs) widths = list_all (λ key. nat_lt key (get_or widths 0 0)) keys && list_all (agg_within (get_or widths 0 0)) aggs
-columns_fit Distinct widths = true
 columns_fit (Join kind keys) widths = list_all (λ pair. nat_lt pair.0 (get_or widths 0 0) && nat_lt pair.1 (get_or widths 1 0)) keys
-columns_fit (Sink name) widths = true
+columns_fit _ widths = true
 
 -- the inputs of a union have one width
 abbrev pub widths_agree : Op → List ℕ → Bool

@@ -1,5 +1,6 @@
 pub mod Checks
 pub mod Joins
+pub mod Nodes
 pub mod Operators
 pub mod Plans
 pub mod Settings

@@ -1,5 +1,5 @@
--- What the operators on one input give, from SQL's meaning.
-use Rattle.std.specs.Prelude.{ℕ, ◌==◌, ℤ, pos, ◌+ℤ◌, List, [], ◌∷◌, ◌++◌, length, map, filter, get_or, slice_set, Option, Some, None, if◌then◌else◌}
+-- The sets of operators, and what those on one input give, from SQL's meaning.
+use Rattle.std.specs.Prelude.{ℕ, Bool, true, false, ◌==◌, ℤ, pos, ◌+ℤ◌, List, [], ◌∷◌, ◌++◌, length, map, filter, get_or, slice_set, Option, Some, None, if◌then◌else◌}
 use Rattle.std.specs.List.{flat_map}
 use Rattle.std.specs.Ordering.{is_lt}
 use Rattle.row_core.specs.Bags.{one_of_each}
@@ -12,6 +12,64 @@ use Rattle.row_core.specs.declared.value.Value.{Value}
 use Rattle.row_core.specs.declared.value.Value.TheVariants.{Null, Int, Text}
 use Rattle.plan_model.specs.declared.agg.Agg.{Agg}
 use Rattle.plan_model.specs.declared.agg.Agg.TheVariants.{Count, Sum, Min, Max}
+use Rattle.plan_model.specs.declared.join_kind.JoinKind.{JoinKind}
+use Rattle.plan_model.specs.declared.join_kind.JoinKind.TheVariants as kind
+use Rattle.plan_model.specs.declared.op.Op.{Op}
+use Rattle.plan_model.specs.declared.op.Op.TheVariants.{Source, Filter, Project, Explode, Union, Aggregate, Distinct, Join, Sink}
+
+-- ---- sets of operators
+
+abbrev pub is_source : Op → Bool
+is_source (Source table columns) = true
+is_source _ = false
+
+abbrev pub is_sink : Op → Bool
+is_sink (Sink name) = true
+is_sink _ = false
+
+-- neither a source, nor a join, nor a sink: it takes the rows of its inputs one after the other
+abbrev pub is_unary : Op → Bool
+is_unary (Source table columns) = false
+is_unary (Join kind keys) = false
+is_unary (Sink name) = false
+is_unary _ = true
+
+-- an operator on one input
+abbrev pub takes_one : Op → Bool
+takes_one (Source table columns) = false
+takes_one Union = false
+takes_one (Join kind keys) = false
+takes_one _ = true
+
+-- what it gives on a row doesn't go by the other rows
+abbrev pub is_row_wise : Op → Bool
+is_row_wise (Filter test) = true
+is_row_wise (Project exprs) = true
+is_row_wise (Explode column separator) = true
+is_row_wise Union = true
+is_row_wise _ = false
+
+-- it works on one row of one input at a time, so that its rows may be spread anew over its subtasks
+abbrev pub may_rebalance : Op → Bool
+may_rebalance (Filter test) = true
+may_rebalance (Project exprs) = true
+may_rebalance (Explode column separator) = true
+may_rebalance (Sink name) = true
+may_rebalance _ = false
+
+-- the joins whose right side may be repeated, since each left row gives its rows by itself
+abbrev pub repeats_right : JoinKind → Bool
+repeats_right kind.Right = false
+repeats_right kind.Full = false
+repeats_right _ = true
+
+-- the joins whose left side may be repeated, since each right row gives its rows by itself
+abbrev pub repeats_left : JoinKind → Bool
+repeats_left kind.Inner = true
+repeats_left kind.Right = true
+repeats_left _ = false
+
+-- ---- what they give
 
 abbrev pub filtered : Pred → List (List Value) → List (List Value)
 filtered test rows = filter (λ row. is_yes (truth_of row test)) rows

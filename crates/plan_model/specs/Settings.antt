@@ -100,27 +100,14 @@ limits v SlowPercent = (100, 10000)
 limits v SlowRatio = (1, 100)
 limits v TargetBytes = (1, 1073741824)
 
--- whether a setting may take this value beside the others
+-- a value that a setting may take beside the others
+abbrev pub IsInRange : SettingValues → Setting → ℕ → Type 0
+IsInRange v setting n = let l = limits v setting in (l.0 ≤ n) × (n ≤ l.1)
+
+-- the test of it
 abbrev pub is_within : SettingValues → Setting → ℕ → Bool
 is_within v setting n = let l = limits v setting in nat_le l.0 n && nat_le n l.1
 
--- a number from low to high
-abbrev pub IsBetween : ℕ → ℕ → ℕ → Type 0
-IsBetween low high n = (low ≤ n) × (n ≤ high)
-
 -- each setting is in its range
-pub record AreInRange (v : SettingValues) : Type 0 where
-  pub attempts : IsBetween 1 4 v.attempts
-  pub block_ms : IsBetween 0 86400000 v.block_ms
-  pub broadcast_bytes : IsBetween 0 1073741824 v.broadcast_bytes
-  pub flush_every : IsBetween 1 1024 v.flush_every
-  pub max_parallelism : IsBetween v.min_parallelism 128 v.max_parallelism
-  pub min_parallelism : IsBetween 1 v.max_parallelism v.min_parallelism
-  pub restart_limit : IsBetween 0 100 v.restart_limit
-  pub skew_bytes : IsBetween 0 1073741824 v.skew_bytes
-  pub skew_percent : IsBetween 100 10000 v.skew_percent
-  pub slots_per_worker : IsBetween 1 8 v.slots_per_worker
-  pub slow_lower_ms : IsBetween 0 86400000 v.slow_lower_ms
-  pub slow_percent : IsBetween 100 10000 v.slow_percent
-  pub slow_ratio : IsBetween 1 100 v.slow_ratio
-  pub target_bytes : IsBetween 1 1073741824 v.target_bytes
+abbrev pub AreInRange : SettingValues → Type 0
+AreInRange v = (setting : Setting) → IsInRange v setting (value_of v setting)

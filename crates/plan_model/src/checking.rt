@@ -20,7 +20,8 @@ pub fn check_plan(alloc: Global, plan: Plan) -> Result<GoodPlan, PlanError>
     requires { length plan < 2 ^ 32 }
     ensures good { IfOk result (λ good. good ≡ plan) }
     ensures faultless { IfOk result (λ good. plan_faults plan ≡ []) }
-    ensures first { (fault : PlanFault) → result ≡ Err (PlanError.Fault fault) → slice_get (plan_faults plan) 0 ≡ Some fault }
+    ensures first { (fault : PlanFault) → result ≡ Err (PlanError.Fault fault)
+        → slice_get (plan_faults plan) 0 ≡ Some fault }
 {
     match first_fault(alloc, plan.as_slice())? {
         Some(fault) => Err(PlanError::Fault(fault)),
@@ -79,7 +80,8 @@ fn has_sink(nodes: &[Node]) -> bool
 
 fn dangling_fault(alloc: Global, nodes: &[Node]) -> Result<Option<PlanFault>, NoMemory>
     requires { length nodes.now < 2 ^ 32 }
-    ensures { IfOk result (λ fault. fault ≡ slice_get (told_at (dangling_kinds nodes.now) [] nodes.now) 0) }
+    ensures { IfOk result (λ fault. fault ≡ slice_get (told_at
+        (dangling_kinds nodes.now) [] nodes.now) 0) }
 {
     let consumed = consumed(alloc, nodes)?;
     for (place, node) in nodes.iter().enumerate() {
@@ -102,7 +104,8 @@ fn dangling_kind(node: &Node, consumed: bool) -> Option<PlanKind>
 /// Whether some node takes the rows of each node.
 fn consumed(alloc: Global, nodes: &[Node]) -> Result<Vec<bool>, NoMemory>
     ensures len { IfOk result (λ marks. length marks.items ≡ length nodes.now) }
-    ensures marks { IfOk result (λ marks. (k : ℕ) → k < length nodes.now → get_or marks.items k false ≡ is_consumed nodes.now k) }
+    ensures marks { IfOk result (λ marks. (k : ℕ) → k < length nodes.now
+        → get_or marks.items k false ≡ is_consumed nodes.now k) }
 {
     let inputs = all_inputs(alloc, nodes)?;
     let mut marks = vec![in alloc; false; nodes.len()]?;
@@ -114,7 +117,8 @@ fn consumed(alloc: Global, nodes: &[Node]) -> Result<Vec<bool>, NoMemory>
 
 fn mark(marks: &mut Vec<bool>, place: usize)
     ensures len { length marks.new.items ≡ length marks.old.items }
-    ensures marks { (k : ℕ) → k < length marks.old.items → get_or marks.new.items k false ≡ (nat_eq k place || get_or marks.old.items k false) }
+    ensures marks { (k : ℕ) → k < length marks.old.items → get_or marks.new.items k false
+        ≡ (nat_eq k place || get_or marks.old.items k false) }
 {
     if place < marks.len() {
         marks[place] = true;
@@ -149,8 +153,11 @@ fn same_sink_kind<'a>(
     names: &mut IndexSet<&'a [u8]>,
     node: &'a Node,
 ) -> Result<Option<PlanKind>, NoMemory>
-    ensures kind { IfOk result (λ kind. kind ≡ slice_get (unless (list_all (λ name. not (list_any (bytes_eq name) (map (λ key. key.now) names.old.keys))) (sink_name node.now.op)) SameSink) 0) }
-    ensures joined { IfOk result (λ kind. IfNone kind (map (λ key. key.now) names.new.keys ≡ map (λ key. key.now) names.old.keys ++ sink_name node.now.op)) }
+    ensures kind { IfOk result (λ kind. kind ≡ slice_get (unless (list_all (λ name. not
+        (list_any (bytes_eq name) (map (λ key. key.now) names.old.keys)))
+        (sink_name node.now.op)) SameSink) 0) }
+    ensures joined { IfOk result (λ kind. IfNone kind (map (λ key. key.now) names.new.keys
+        ≡ map (λ key. key.now) names.old.keys ++ sink_name node.now.op)) }
 {
     let Op::Sink { name } = &node.op else {
         return Ok(None);

@@ -1,4 +1,5 @@
 ghost use Rattle.std.specs.Prelude.{◌≡◌, ◌<◌, ◌^◌};
+ghost use Rattle.plan_model.specs.Operators.{repeats_right};
 ghost use Rattle.plan_model.specs.Plans.{join_width};
 
 /// Which rows a join gives; docs/SEMANTICS.md has a row for each.
@@ -23,5 +24,12 @@ impl JoinKind {
             JoinKind::Semi | JoinKind::Anti => left,
             _ => left + right,
         }
+    }
+
+    /// Whether each left row gives its rows by itself, so that the right side may be repeated.
+    pub fn repeats_right(self) -> bool
+        ensures { result ≡ repeats_right self }
+    {
+        !matches!(self, JoinKind::Right | JoinKind::Full)
     }
 }

@@ -8,8 +8,10 @@ use row_core::NoMemory;
 
 /// Adds a name, and tells whether it is new.
 pub fn insert_name<'a>(names: &mut IndexSet<&'a [u8]>, name: &'a [u8]) -> Result<bool, NoMemory>
-    ensures fresh { IfOk result (λ fresh. fresh ≡ not (list_any (bytes_eq name.now) (map (λ key. key.now) names.old.keys))) }
-    ensures names { OnOk result (map (λ key. key.now) names.new.keys ≡ insert_key bytes_eq (map (λ key. key.now) names.old.keys) name.now) }
+    ensures fresh { IfOk result (λ fresh. fresh ≡ not (list_any (bytes_eq name.now) (map
+        (λ key. key.now) names.old.keys))) }
+    ensures names { OnOk result (map (λ key. key.now) names.new.keys
+        ≡ insert_key bytes_eq (map (λ key. key.now) names.old.keys) name.now) }
 {
     Ok(names.insert(name)?)
 }

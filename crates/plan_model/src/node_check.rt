@@ -11,7 +11,8 @@ pub fn check_node(before: &[Node], widths: &[u32], node: &Node) -> Result<u32, P
     requires widths { widths.now ≡ input_widths (widths_of before.now) node.now.inputs }
     requires narrow { All (λ width. width ≤ 256) widths.now }
     ensures faultless { IfOk result (λ width. slice_get (node_kinds before.now node.now) 0 ≡ None) }
-    ensures first { IfErr result (λ kind. slice_get (node_kinds before.now node.now) 0 ≡ Some kind) }
+    ensures first { IfErr result (λ kind. slice_get (node_kinds before.now node.now) 0
+        ≡ Some kind) }
     ensures width { IfOk result (λ width. width ≡ width_of node.now.op widths.now) }
     ensures narrow { IfOk result (λ width. width ≤ 256) }
 {
@@ -38,7 +39,8 @@ pub fn check_node(before: &[Node], widths: &[u32], node: &Node) -> Result<u32, P
 }
 
 fn inputs_fit(before: &[Node], node: &Node) -> bool
-    ensures { result ≡ (takes node.now.op (length node.now.inputs) && list_all (gives_rows before.now) node.now.inputs) }
+    ensures { result ≡ (takes node.now.op (length node.now.inputs) && list_all
+        (gives_rows before.now) node.now.inputs) }
 {
     let inputs = node.inputs.as_slice();
     node.op.takes(inputs.len()) && all_give_rows(before, inputs)

@@ -21,7 +21,8 @@ pub fn tables_of(alloc: Global, plan: &Plan) -> Result<TableNames, NoMemory>
 
 /// Adds the table of a source, if the node is one.
 fn insert_source<'a>(names: &mut IndexSet<&'a [u8]>, node: &'a Node) -> Result<(), NoMemory>
-    ensures { OnOk result ((seen : List (List ℕ)) → map (λ key. key.now) names.old.keys ≡ each_once seen
+    ensures { OnOk result ((seen : List (List ℕ)) → map (λ key. key.now) names.old.keys
+        ≡ each_once seen
         → map (λ key. key.now) names.new.keys ≡ each_once (seen ++ source_table node.now.op)) }
 {
     if let Op::Source { table, .. } = &node.op {

@@ -1,23 +1,23 @@
 -- Each head of a plan is made, and made once.
-use Rattle.std.proofs.Common.{◌≡◌, ℕ, zero, suc, ◌<◌, ◌≤◌, nat_eq, nat_lt, Bool, true, false, not, ◌&&◌, ◌||◌, List, [], ◌∷◌, ◌++◌, length, take, get_or, Option, refl, sym, ◌∙◌, ap, subst, arith, length-append}
+use Rattle.std.proofs.Common.{◌≡◌, ℕ, zero, suc, ◌<◌, ◌≤◌, nat_eq, nat_lt, Bool, true, false, not, ◌&&◌, ◌||◌, List, [], ◌∷◌, ◌++◌, length, take, Option, None, Some, slice_get, refl, sym, ◌∙◌, ap, subst, arith, length-append}
 use Rattle.std.specs.List.{list_all, range_with_len, AllByRecursion, IsDistinct}
 use Rattle.std.specs.Option.{option_map_or}
 use Rattle.std.proofs.lemmas.Bool.{false≢true}
-use Rattle.std.proofs.lemmas.List.{get_or_default, take_all}
+use Rattle.std.proofs.lemmas.List.{take_all}
 use Rattle.std.proofs.lemmas.List.Elements.{filter_passes, recursion_from_All}
 use Rattle.std.proofs.lemmas.List.Folds.{list_any-append}
 use Rattle.std.proofs.lemmas.Map.Steps.{length-le_from_distinct_below}
 use Rattle.std.proofs.lemmas.Map.Views.{any-filter_same}
-use Rattle.std.proofs.lemmas.Option.{slice_get-get_or}
+use Rattle.plan_model.proofs.Laws.{inputs_earlier}
 use Rattle.plan_model.specs.Checks.{plan_faults}
 use Rattle.plan_model.specs.declared.node.Node.{Node}
 use Rattle.vertex_builder.specs.Edges.{is_head}
-use Rattle.vertex_builder.specs.Vertices.{is_among, inputs_at, is_makeable, makeable_heads}
-use Rattle.vertex_builder.proofs.Chaining.{no_node}
-use Rattle.vertex_builder.proofs.GoodNodes.{good_node}
-use Rattle.plan_text.specs.Making.{chain_of, nodes_of_vertices, heads_made, making_order}
+use Rattle.vertex_builder.specs.Chains.{is_among}
+use Rattle.vertex_builder.specs.Vertices.{inputs_at, is_makeable, makeable_heads}
+use Rattle.vertex_builder.proofs.Laws.{chains_part}
+use Rattle.vertex_builder.specs.Chains.{chain_of}
+use Rattle.plan_text.specs.Making.{nodes_of_vertices, heads_made, making_order}
 use Rattle.plan_text.specs.OrderLaws.{HasEachHead, EachHeadIsMade}
-use Rattle.plan_text.proofs.Covered.{has_head}
 use Rattle.plan_text.proofs.Membership.{same_number, below_yes, below_is, both_left, both_right, all_map, all_yes, distinct_append, distinct_filter, distinct_range, has_below, is_below, among_pieces}
 use Rattle.plan_text.proofs.Rounds.{settles}
 
@@ -120,13 +120,12 @@ cannot_be_made nodes q within =
     (sym (makeable_among nodes made complete q) ∙ ap (λ (l : List ℕ). is_among l q) (at_the_end nodes))
 
 module _ (nodes : List Node) (good : plan_faults nodes ≡ []) where
-  inputs_before : (q : ℕ) → q < length nodes → AllByRecursion (λ input. input < q) (inputs_at nodes q)
-  inputs_before q within =
-      let here = get_or nodes q no_node in
-      let is_good = good_node nodes q here good within (get_or_default nodes q no_node here within) in
-      let inputs : inputs_at nodes q ≡ here.inputs = ap (λ (o : Option Node). option_map_or (λ n. n.inputs) o []) (slice_get-get_or nodes q no_node within) in
-      let P : List ℕ → Type 0 = AllByRecursion (λ input. input < q) in
-      subst P (sym inputs) (recursion_from_All (λ input. input < q) here.inputs is_good.before)
+  inputs_before : (q : ℕ) → AllByRecursion (λ input. input < q) (inputs_at nodes q)
+  inputs_before q = at (slice_get nodes q) refl
+    where
+      at : (o : Option Node) → slice_get nodes q ≡ o → AllByRecursion (λ input. input < q) (option_map_or (λ n. n.inputs) o [])
+      at None is = tt
+      at (Some node) is = recursion_from_All (λ input. input < q) node.inputs (inputs_earlier nodes q node good is)
 
   pub made_below : (n q : ℕ) → q < n → q < length nodes → is_head nodes q ≡ true → is_among (making_order nodes) q ≡ true
   made_below zero q lt within head = absurd (omega (arith, lt))
@@ -137,8 +136,8 @@ module _ (nodes : List Node) (good : plan_faults nodes ≡ []) where
           let made = making_order nodes in
           let complete = nodes_of_vertices nodes made in
           let ready : AllByRecursion (λ input. is_among complete input ≡ true) (inputs_at nodes q) =
-          all_map (λ input. input < q) (λ input. is_among complete input ≡ true) (inputs_at nodes q) (inputs_before q within) (λ input lower.
-          let of = has_head nodes good input (omega (arith, lower, within)) in
+          all_map (λ input. input < q) (λ input. is_among complete input ≡ true) (inputs_at nodes q) (inputs_before q) (λ input lower.
+          let of = (chains_part nodes good).each input (omega (arith, lower, within)) in
           among_pieces (chain_of nodes) made of.head input (before of.head (omega (arith, of.before, lower, lt)) (omega (arith, of.before, lower, within)) of.is) of.inside) in
           middle_set (is_head nodes q) (is_among made q) (list_all (is_among complete) (inputs_at nodes q)) head
           (all_yes (is_among complete) (inputs_at nodes q) ready) (cannot_be_made nodes q within)

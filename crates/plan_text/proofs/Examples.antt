@@ -11,7 +11,8 @@ use Rattle.plan_model.specs.declared.column.Column.{Column}
 use Rattle.plan_model.specs.declared.node.Node.{Node}
 use Rattle.plan_model.specs.declared.op.Op.TheVariants.{Source, Filter, Aggregate, Join, Sink}
 use Rattle.plan_text.specs.Checked.{sink_count}
-use Rattle.plan_text.specs.Making.{chain_of, heads_made, making_order}
+use Rattle.vertex_builder.specs.Chains.{chain_of}
+use Rattle.plan_text.specs.Making.{heads_made, making_order}
 
 abbrev column : Column
 column = record { name = codes "c"; kind = IntKind }

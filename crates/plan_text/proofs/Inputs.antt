@@ -9,8 +9,10 @@ use Rattle.std.proofs.lemmas.List.Folds.{list_any-append}
 use Rattle.std.proofs.Math.Seq.{take-append-add}
 use Rattle.plan_model.specs.declared.node.Node.{Node}
 use Rattle.vertex_builder.specs.Edges.{is_head}
-use Rattle.vertex_builder.specs.Vertices.{is_among, inputs_at, is_makeable, makeable_heads}
-use Rattle.plan_text.specs.Making.{chain_of, nodes_of_vertices, heads_made}
+use Rattle.vertex_builder.specs.Chains.{is_among}
+use Rattle.vertex_builder.specs.Vertices.{inputs_at, is_makeable, makeable_heads}
+use Rattle.vertex_builder.specs.Chains.{chain_of}
+use Rattle.plan_text.specs.Making.{nodes_of_vertices, heads_made}
 use Rattle.plan_text.specs.OrderLaws.{GoesByInputs, InputsComeBefore}
 use Rattle.plan_text.proofs.Membership.{either_left, both_left, both_right}
 

@@ -1,12 +1,8 @@
+mod Commas
+mod EachHead
 mod Examples
-pub mod Apart
-pub mod Chains
-pub mod Commas
-pub mod Covered
-pub mod EachHead
-pub mod Inputs
-pub mod Membership
-pub mod OneInput
-pub mod Printed
-pub mod Rounds
-pub mod Shown
+mod Inputs
+mod Membership
+mod Printed
+mod Rounds
+mod Shown

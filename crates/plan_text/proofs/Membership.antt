@@ -6,7 +6,7 @@ use Rattle.std.proofs.lemmas.Bool.Decides.{nat_tests}
 use Rattle.std.proofs.lemmas.List.Folds.{list_any-append}
 use Rattle.std.proofs.lemmas.List.FromFn.{get_or-range_with_len, length-range_with_len}
 use Rattle.std.proofs.lemmas.Map.Keys.{IsDistinct-head, IsDistinct-tail, IsDistinct-cons, IsDistinct-from_apart}
-use Rattle.vertex_builder.specs.Vertices.{is_among}
+use Rattle.vertex_builder.specs.Chains.{is_among}
 
 -- ---- tests of numbers
 
@@ -138,61 +138,3 @@ among_pieces f (y ∷ ys) x q e here = list_any-append (nat_eq q) (f y) (flat_ma
     at : (b : Bool) → nat_eq x y ≡ b → (is_among ys x ≡ true → is_among (f x) q ≡ true → is_among (flat_map f ys) q ≡ true) → (is_among (f y) q || is_among (flat_map f ys) q) ≡ true
     at true is rest = either_left (is_among (f y) q) (is_among (flat_map f ys) q) (ap (λ (n : ℕ). is_among (f n) q) (sym (same_number x y is)) ∙ here)
     at false is rest = either_right (is_among (f y) q) (is_among (flat_map f ys) q) (rest (sym (ap (λ (b : Bool). b || is_among ys x) is) ∙ e) here)
-
--- ---- items of any type
-
-module _ {X : Type 0} where
-  -- the item stands in the list
-  abbrev pub IsIn : X → List X → Type 0
-  IsIn x [] = ⊥
-  IsIn x (y ∷ ys) = (x ≡ y) ⊎ IsIn x ys
-
-  pub in_front : (x : X) (xs ys : List X) → IsIn x xs → IsIn x (xs ++ ys)
-  in_front x [] ys h = absurd h
-  in_front x (y ∷ xs) ys (inl e) = inl e
-  in_front x (y ∷ xs) ys (inr h) = inr (in_front x xs ys h)
-
-  pub in_back : (x : X) (xs ys : List X) → IsIn x ys → IsIn x (xs ++ ys)
-  in_back x [] ys h = h
-  in_back x (y ∷ xs) ys h = inr (in_back x xs ys h)
-
-  pub in_filter : (x : X) (p : X → Bool) (xs : List X) → p x ≡ true → IsIn x xs → IsIn x (filter p xs)
-  in_filter x p [] e h = h
-  in_filter x p (y ∷ xs) e (inl same) = at (p y) (sym (ap p same) ∙ e)
-    where
-      at : (b : Bool) → b ≡ true → IsIn x (cond b (y ∷ filter p xs) (filter p xs))
-      at true is = inl same
-      at false is = absurd (false≢true is)
-  in_filter x p (y ∷ xs) e (inr h) = at (p y) (in_filter x p xs e h)
-    where
-      at : (b : Bool) → IsIn x (filter p xs) → IsIn x (cond b (y ∷ filter p xs) (filter p xs))
-      at true rest = inr rest
-      at false rest = rest
-
-  pub in_one : (x : X) (xs : List X) → length xs ≡ 1 → IsIn x xs → xs ≡ x ∷ []
-  in_one x [] one h = absurd h
-  in_one x (y ∷ []) one (inl e) = ap (λ (z : X). z ∷ []) (sym e)
-  in_one x (y ∷ []) one (inr h) = absurd h
-  in_one x (y ∷ z ∷ xs) one h = absurd (omega (arith, one))
-
-  pub all_in : (P : X → Type 0) (x : X) (xs : List X) → AllByRecursion P xs → IsIn x xs → P x
-  all_in P x [] all h = absurd h
-  all_in P x (y ∷ xs) all (inl e) = at (sym e) all.0
-    where
-      at : y ≡ x → P y → P x
-      at is here = subst P is here
-  all_in P x (y ∷ xs) all (inr h) = all_in P x xs all.1 h
-
-  -- an item that passes a test
-  pub record PassingIn (p : X → Bool) (xs : List X) : Type 0 where
-    pub item : X
-    pub inside : IsIn item xs
-    pub passes : p item ≡ true
-
-  pub one_passes : (p : X → Bool) (xs : List X) → list_all (λ x. not (p x)) xs ≡ false → PassingIn p xs
-  one_passes p [] e = absurd (false≢true (sym e))
-  one_passes p (x ∷ xs) e = at (p x) refl (one_passes p xs) e
-    where
-      at : (b : Bool) → p x ≡ b → (list_all (λ y. not (p y)) xs ≡ false → PassingIn p xs) → (not b && list_all (λ y. not (p y)) xs) ≡ false → PassingIn p (x ∷ xs)
-      at true is rest says = record { item = x; inside = inl refl; passes = is }
-      at false is rest says = let found = rest says in record { item = found.item; inside = inr found.inside; passes = found.passes }

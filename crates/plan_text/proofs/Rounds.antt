@@ -5,7 +5,8 @@ use Rattle.std.proofs.lemmas.Grind.{flat_map-append}
 use Rattle.std.proofs.lemmas.List.{append-nil, take_all, take_more, take-append-le}
 use Rattle.plan_model.specs.declared.node.Node.{Node}
 use Rattle.vertex_builder.specs.Vertices.{makeable_heads}
-use Rattle.plan_text.specs.Making.{chain_of, nodes_of_vertices, heads_made}
+use Rattle.vertex_builder.specs.Chains.{chain_of}
+use Rattle.plan_text.specs.Making.{nodes_of_vertices, heads_made}
 
 -- ---- no round after the last vertex is complete makes more
 

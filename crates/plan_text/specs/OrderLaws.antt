@@ -4,7 +4,8 @@ use Rattle.std.specs.List.{list_all, IsDistinct}
 use Rattle.plan_model.specs.Checks.{plan_faults}
 use Rattle.plan_model.specs.declared.node.Node.{Node}
 use Rattle.vertex_builder.specs.Edges.{is_head}
-use Rattle.vertex_builder.specs.Vertices.{is_among, inputs_at}
+use Rattle.vertex_builder.specs.Chains.{is_among}
+use Rattle.vertex_builder.specs.Vertices.{inputs_at}
 use Rattle.plan_text.specs.Making.{nodes_of_vertices, making_order}
 
 -- each head of the plan, and no other node, and none twice
@@ -14,7 +15,8 @@ pub record HasEachHead (nodes : List Node) (order : List ℕ) : Type 0 where
 
 -- in a plan without a fault each head is made, and made once
 abbrev pub EachHeadIsMade : Type 0
-EachHeadIsMade = (nodes : List Node) → plan_faults nodes ≡ [] → HasEachHead nodes (making_order nodes)
+EachHeadIsMade =
+    (nodes : List Node) → plan_faults nodes ≡ [] → HasEachHead nodes (making_order nodes)
 
 -- the vertices of these heads have each node of the plan, and nothing else, and none twice
 pub record ShowsEachNode (nodes : List Node) (order : List ℕ) : Type 0 where
@@ -23,11 +25,14 @@ pub record ShowsEachNode (nodes : List Node) (order : List ℕ) : Type 0 where
 
 -- in a plan without a fault each node is in one vertex that is made
 abbrev pub EachNodeIsShown : Type 0
-EachNodeIsShown = (nodes : List Node) → plan_faults nodes ≡ [] → ShowsEachNode nodes (making_order nodes)
+EachNodeIsShown =
+    (nodes : List Node) → plan_faults nodes ≡ [] → ShowsEachNode nodes (making_order nodes)
 
 -- the nodes whose rows a head takes are in vertices before its own
 abbrev pub GoesByInputs : List Node → List ℕ → Type 0
-GoesByInputs nodes heads = (k : ℕ) → k < length heads → list_all (is_among (nodes_of_vertices nodes (take k heads))) (inputs_at nodes (get_or heads k 0)) ≡ true
+GoesByInputs nodes heads = (k : ℕ) → k < length heads
+    → let before = nodes_of_vertices nodes (take k heads) in
+    list_all (is_among before) (inputs_at nodes (get_or heads k 0)) ≡ true
 
 -- the order goes by the inputs of each head
 abbrev pub InputsComeBefore : Type 0

@@ -5,8 +5,8 @@ use plan_model::{GoodPlan, Node};
 use row_core::{Bytes, NoMemory};
 use std::alloc::Global;
 
-/// What `check` prints of a plan: `ok nodes=6 sinks=1` and a line feed. The first number counts all nodes,
-/// the second those that are sinks.
+/// What `check` prints of a plan: `ok nodes=6 sinks=1` and a line feed. The first number counts
+/// all nodes, the second those that are sinks.
 pub fn check_text(alloc: Global, plan: &GoodPlan) -> Result<Bytes, NoMemory>
     ensures { IfOk result (λ text. text ≡ check_text plan.now) }
 {

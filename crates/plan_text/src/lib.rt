@@ -1,5 +1,5 @@
-//! The texts that the commands `check` and `plan` print of a plan that was accepted: how large it is, and
-//! its vertices in the order in which they are made.
+//! The texts that the commands `check` and `plan` print of a plan that was accepted: how large it
+//! is, and its vertices in the order in which they are made.
 //!
 //! `check` prints one line, `ok nodes=6 sinks=1`. `plan` prints a line for each vertex:
 //! `vertex 2 nodes=3 in=1:hash,2:hash out=4:hash`.

@@ -1,40 +1,34 @@
-ghost use Rattle.std.specs.Prelude.{◌≡◌, ◌<◌, ◌^◌, ◌++◌, [], length, map, All, IfOk, OnOk};
-ghost use Rattle.plan_model.specs.Checks.{plan_faults};
+ghost use Rattle.std.specs.Prelude.{◌≡◌, ◌++◌, map, All, IfOk, OnOk};
 ghost use Rattle.vertex_builder.specs.Vertices.{makeable_heads, head_of, IsVertex};
-ghost use Rattle.plan_text.specs.Making.{making_order};
+ghost use Rattle.plan_text.specs.Making.{vertices_made};
 
 use plan_model::{GoodPlan, Settings};
 use row_core::NoMemory;
 use std::alloc::Global;
 use vertex_builder::{NodeSet, Vertex, Widenings, makeable};
 
-/// The vertices of a plan in the order in which they are made, if they complete one at a time in that order.
-/// It calls `makeable` once more than there are vertices, at most.
-pub fn vertices_in_order(
-    alloc: Global,
-    plan: &GoodPlan,
-    settings: &Settings,
-) -> Result<Vec<Vertex>, NoMemory>
-    requires { length plan.now < 2 ^ 32 }
-    ensures faultless { plan_faults plan.now ≡ [] }
-    ensures heads { IfOk result (λ vertices. map head_of vertices.items ≡ making_order plan.now) }
-    ensures vertices { IfOk result (λ vertices. All (IsVertex plan.now settings.now.max_parallelism) vertices.items) }
+/// The vertices of a plan in the order in which they are made, if they complete one at a time in
+/// that order. It calls `makeable` once more than there are vertices, at most.
+pub fn vertices_in_order(alloc: Global, plan: &GoodPlan) -> Result<Vec<Vertex>, NoMemory>
+    ensures { IfOk result (λ vertices. vertices.items ≡ vertices_made plan.now) }
 {
+    // The settings decide nothing that is shown.
+    let settings = Settings::defaults();
     let count = plan.nodes().len();
     let mut complete = Vec::new(alloc);
     let mut vertices = Vec::new(alloc);
-    make_more(alloc, plan, settings, complete.as_slice(), &mut vertices)?;
+    make_more(alloc, plan, &settings, complete.as_slice(), &mut vertices)?;
     for place in 0..count {
         if place >= vertices.len() {
             break;
         }
         complete.extend_from_slice(vertices[place].nodes.as_slice())?;
-        make_more(alloc, plan, settings, complete.as_slice(), &mut vertices)?;
+        make_more(alloc, plan, &settings, complete.as_slice(), &mut vertices)?;
     }
     Ok(vertices)
 }
 
-/// Makes the vertices that can be made where these are made, and these nodes are in complete ones.
+// Makes the vertices that can be made where these are made, and these nodes are in complete ones.
 fn make_more(
     alloc: Global,
     plan: &GoodPlan,
@@ -42,10 +36,12 @@ fn make_more(
     complete: &[u32],
     vertices: &mut Vec<Vertex>,
 ) -> Result<(), NoMemory>
-    requires few { length plan.now < 2 ^ 32 }
-    requires made { All (IsVertex plan.now settings.now.max_parallelism) vertices.old.items }
-    ensures heads { OnOk result (map head_of vertices.new.items ≡ map head_of vertices.old.items ++ makeable_heads plan.now (map head_of vertices.old.items) complete.now) }
-    ensures vertices { OnOk result (All (IsVertex plan.now settings.now.max_parallelism) vertices.new.items) }
+    requires { All (IsVertex plan.now settings.now.max_parallelism) vertices.old.items }
+    ensures heads { OnOk result (map head_of vertices.new.items
+        ≡ map head_of vertices.old.items
+        ++ makeable_heads plan.now (map head_of vertices.old.items) complete.now) }
+    ensures vertices { OnOk result
+        (All (IsVertex plan.now settings.now.max_parallelism) vertices.new.items) }
 {
     let made = NodeSet::from_vec(heads_of(alloc, vertices.as_slice())?);
     let complete = NodeSet::from_vec(complete.to_vec(alloc)?);
@@ -65,7 +61,7 @@ fn heads_of(alloc: Global, vertices: &[Vertex]) -> Result<Vec<u32>, NoMemory>
     Ok(heads)
 }
 
-/// The first node of a vertex.
+// The first node of a vertex.
 fn head_of(vertex: &Vertex) -> u32
     ensures { result ≡ head_of vertex.now }
 {

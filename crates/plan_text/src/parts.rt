@@ -58,7 +58,7 @@ fn output_text(alloc: Global, output: &VertexOutput) -> Result<Bytes, NoMemory>
     }
 }
 
-/// The node at the other end of an edge, and how rows go along it.
+// The node at the other end of an edge, and how rows go along it.
 fn end_text(alloc: Global, node: u32, ship: &Ship) -> Result<Bytes, NoMemory>
     ensures { IfOk result (λ text. text ≡ end_text node ship.now) }
 {

@@ -1,14 +1,14 @@
 use crate::{check_text, plan_text};
 use plan_model::{
-    Agg, Aggs, Column, Exprs, JoinKind, KeyPairs, Kind, Node, Op, Plan, PlanError, Schema, Setting,
-    Settings, check_plan,
+    Agg, Aggs, Column, Exprs, JoinKind, KeyPairs, Kind, Node, Op, Plan, PlanError, Schema,
+    check_plan,
 };
 use row_core::{Bytes, Columns, Expr, NoMemory, Pred};
 use std::alloc::{AllocError, Global};
 use std::test::Fail;
 
-// An operator in short: a source by its number of columns, a filter by the column that it looks at, a
-// project and an aggregate by the columns that they show or count by.
+// An operator in short: a source by its number of columns, a filter by the column that it looks
+// at, a project and an aggregate by the columns that they show or count by.
 #[derive(Clone, Copy)]
 enum Short {
     Source(u32),
@@ -105,17 +105,14 @@ fn printed(alloc: Global, shown: &Shown) -> Result<Bytes, NoMemory> {
         Err(PlanError::NoMemory) => return Err(AllocError),
         Err(PlanError::Fault(_)) => return Bytes::from_slice(alloc, b"fault"),
     };
-    let mut settings = Settings::defaults();
-    let _ = settings.set(Setting::MaxParallelism, shown.cells);
     let mut text = check_text(alloc, &good)?;
-    let lines = plan_text(alloc, &good, &settings)?;
+    let lines = plan_text(alloc, &good)?;
     text.extend(lines.as_slice())?;
     Ok(text)
 }
 
 struct Shown {
     nodes: &'static [ShortNode],
-    cells: u64,
     text: &'static str,
 }
 
@@ -152,8 +149,8 @@ const DAILY: &[ShortNode] = &[
     (Short::Sink("largest"), &[7], false),
 ];
 
-// A source with four consumers, a union that takes it twice and a filter spread anew, and a distinct that a
-// sink and a join with itself take.
+// A source with four consumers, a union that takes it twice and a filter spread anew, and a
+// distinct that a sink and a join with itself take.
 const SHARED: &[ShortNode] = &[
     (Short::Source(2), &[], false),
     (Short::Filter(0), &[0], false),
@@ -173,20 +170,17 @@ const SHARED: &[ShortNode] = &[
 const SHOWN: &[Shown] = &[
     Shown {
         nodes: FILTERED,
-        cells: 16,
         text: "ok nodes=3 sinks=1\n\
             vertex 0 nodes=0,1,2 in=files out=sink\n",
     },
     Shown {
         nodes: REBALANCED,
-        cells: 2,
         text: "ok nodes=3 sinks=1\n\
             vertex 0 nodes=0 in=files out=1:rebalance\n\
             vertex 1 nodes=1,2 in=0:rebalance out=sink\n",
     },
     Shown {
         nodes: GENERATED,
-        cells: 8,
         text: "ok nodes=6 sinks=1\n\
             vertex 0 nodes=0,1 in=files out=3:hash\n\
             vertex 1 nodes=2 in=files out=3:hash\n\
@@ -195,7 +189,6 @@ const SHOWN: &[Shown] = &[
     },
     Shown {
         nodes: DAILY,
-        cells: 16,
         text: "ok nodes=9 sinks=2\n\
             vertex 0 nodes=0,1,2 in=files out=4:hash,7:hash\n\
             vertex 1 nodes=3 in=files out=4:hash\n\
@@ -205,7 +198,6 @@ const SHOWN: &[Shown] = &[
     },
     Shown {
         nodes: SHARED,
-        cells: 3,
         text: "ok nodes=9 sinks=3\n\
             vertex 0 nodes=0 in=files out=1:forward,2:rebalance,3:rebalance,3:rebalance\n\
             vertex 1 nodes=1,7 in=0:forward out=sink\n\

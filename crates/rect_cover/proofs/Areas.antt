@@ -4,8 +4,7 @@ use Rattle.std.proofs.Math.Nat.{zero-mul, one-mul}
 use Rattle.std.specs.List.{sum_by}
 use Rattle.row_core.specs.Bags.{SameBag}
 use Rattle.bag_laws.specs.Rows.{OneRow as Row}
-use Rattle.bag_laws.proofs.Totals.{total, total_is, total-each, total-times, total-flat_map}
-use Rattle.bag_laws.proofs.Alike.{by_weights, weighs}
+use Rattle.bag_laws.proofs.Laws.{total, total_is, total-each, total-times, total-flat_map, by_weights, weighs}
 use Rattle.rect_cover.specs.declared.rect.Rect.{Rect}
 use Rattle.rect_cover.specs.declared.grid.Grid.{Grid}
 use Rattle.rect_cover.specs.Cells.{is_inside, times, whole, reading, gathered}

@@ -3,8 +3,7 @@ use Rattle.std.proofs.Common.{All, List, [], ◌∷◌, sym, ◌∙◌}
 use Rattle.std.specs.List.{flat_map, AllZip}
 use Rattle.row_core.specs.Bags.{SameBag}
 use Rattle.bag_laws.specs.Rows.{OneRow as Row}
-use Rattle.bag_laws.proofs.Totals.{total, total-where, total-flat_map}
-use Rattle.bag_laws.proofs.Alike.{by_weights, weighs, same_refl, same_on, same_flat_map, flat_map-joined}
+use Rattle.bag_laws.proofs.Laws.{total, total-where, total-flat_map, by_weights, weighs, same_refl, same_on, same_flat_map, flat_map-joined}
 use Rattle.rect_cover.specs.Chains.{chained, GivesSame}
 
 pub chained-same : (fs gs : List (Row → List Row)) {xs ys : List Row} → AllZip GivesSame fs gs → SameBag xs ys → SameBag (chained fs xs) (chained gs ys)

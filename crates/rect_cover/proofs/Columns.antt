@@ -6,8 +6,7 @@ use Rattle.std.proofs.lemmas.List.Elements.{All-nil, All-append}
 use Rattle.std.specs.List.{flat_map}
 use Rattle.row_core.specs.Bags.{SameBag}
 use Rattle.bag_laws.specs.Rows.{OneRow as Row, AreApart, IsKeyed}
-use Rattle.bag_laws.proofs.Totals.{total, total-append, total-where, total-times, total-flat_map}
-use Rattle.bag_laws.proofs.Alike.{by_weights, weighs}
+use Rattle.bag_laws.proofs.Laws.{total, total-append, total-where, total-times, total-flat_map, by_weights, weighs}
 use Rattle.rect_cover.specs.declared.grid.Grid.{Grid}
 use Rattle.rect_cover.specs.Cells.{Reads, rects_of, times, whole, reading, touches, gathered}
 use Rattle.rect_cover.specs.Covers.{HasColumns, ByColumns}
@@ -21,7 +20,7 @@ All-gathered P zero f each = All-nil P
 All-gathered P (suc n) f each = All-append P (gathered n f) (f n) (All-gathered P n f (λ k lt. each k (omega arith))) (each n (omega arith))
 
 module _ (meets : Row → Row → Bool) (op : List Row → List Row) (keyed : IsKeyed meets op)
-    (grid : Grid) (rows : ℕ → ℕ → List Row) (in_column : MeetsInColumn meets grid rows) where
+    (grid : Grid) (rows : ℕ → ℕ → List Row) (in_column : MeetsInColumn meets (record { grid = grid; rows = rows })) where
   abbrev column : ℕ → List Row
   column s = gathered grid.producers (λ p. rows p s)
 

@@ -3,9 +3,7 @@ use Rattle.std.proofs.Common.{get_or, ◌≡◌, ℕ, ◌<◌, Bool, true, false
 use Rattle.std.specs.List.{flat_map}
 use Rattle.row_core.specs.Bags.{SameBag}
 use Rattle.bag_laws.specs.Rows.{OneRow as Row}
-use Rattle.bag_laws.proofs.Totals.{total-where, total-swap}
-use Rattle.bag_laws.proofs.Counts.{SameBag-append}
-use Rattle.bag_laws.proofs.Alike.{by_weights, weighs, flat_map-split}
+use Rattle.bag_laws.proofs.Laws.{total-where, total-swap, SameBag-append, by_weights, weighs, flat_map-split}
 use Rattle.rect_cover.specs.declared.grid.Grid.{Grid}
 use Rattle.rect_cover.specs.Cells.{Reads, rects_of, times, whole, reading, touches}
 use Rattle.rect_cover.specs.Covers.{EachOnce, HasColumns, ByColumns, IsDriven, SameColumns}
@@ -15,7 +13,8 @@ use Rattle.rect_cover.proofs.Sides.{left_driven, total-paired}
 use Rattle.rect_cover.proofs.Touched.{by_touch}
 
 pub in_column_swap : {matches : Row → Row → Bool} {left right : Grid} {ls : ℕ → ℕ → List Row} {rs : ℕ → ℕ → List Row}
-    → MatchesInColumn matches left ls right rs → MatchesInColumn (λ r l. matches l r) right rs left ls
+    → MatchesInColumn matches (record { grid = left; rows = ls }) (record { grid = right; rows = rs })
+    → MatchesInColumn (λ r l. matches l r) (record { grid = right; rows = rs }) (record { grid = left; rows = ls })
 in_column_swap in_column = record { apart = λ q u p s under within lt less differ j e at i d within'. in_column.apart p s q u lt less under within (λ same. differ (sym same)) i d within' j e at }
 
 pub once_of_columns : {grid : Grid} {input : ℕ} {ts : List Reads} → ByColumns grid input ts → EachOnce grid input ts
@@ -35,35 +34,39 @@ one_if_some true false m n same left right some = absurd (cc)
 pub driven_left : {left right : Grid} {input other : ℕ} {ts : List Reads} → SameColumns left input right other ts → IsDriven left input right other ts
 driven_left {left} {right} {input} {other} {ts} cover = record {
   once = once_of_columns cover.lefts;
-  partners = λ k d at p q s lt less under within some.
-      let t : Reads = get_or ts k d in
-      one_if_some (touches (rects_of t input) s) (touches (rects_of t other) s) (times (rects_of t input) p s) (times (rects_of t other) q s)
-      (cover.same k d at s (omega arith))
-      (by_touch left (rects_of t input) ((cover.lefts).full k d at) p s lt less)
-      (by_touch right (rects_of t other) ((cover.rights).full k d at) q s under within)
-      some;
+  partners = λ k d at. record {
+    each = λ p q s lt less under within some.
+        let t : Reads = get_or ts k d in
+        one_if_some (touches (rects_of t input) s) (touches (rects_of t other) s) (times (rects_of t input) p s) (times (rects_of t other) q s)
+        (cover.same k d at s (omega arith))
+        (by_touch left (rects_of t input) ((cover.lefts).full k d at) p s lt less)
+        (by_touch right (rects_of t other) ((cover.rights).full k d at) q s under within)
+        some;
+  };
 }
 
 pub driven_right : {left right : Grid} {input other : ℕ} {ts : List Reads} → SameColumns left input right other ts → IsDriven right other left input ts
 driven_right {left} {right} {input} {other} {ts} cover = record {
   once = once_of_columns cover.rights;
-  partners = λ k d at p q s lt less under within some.
-      let t : Reads = get_or ts k d in
-      one_if_some (touches (rects_of t other) s) (touches (rects_of t input) s) (times (rects_of t other) p s) (times (rects_of t input) q s)
-      (sym (cover.same k d at s (omega arith)))
-      (by_touch right (rects_of t other) ((cover.rights).full k d at) p s lt less)
-      (by_touch left (rects_of t input) ((cover.lefts).full k d at) q s under within)
-      some;
+  partners = λ k d at. record {
+    each = λ p q s lt less under within some.
+        let t : Reads = get_or ts k d in
+        one_if_some (touches (rects_of t other) s) (touches (rects_of t input) s) (times (rects_of t other) p s) (times (rects_of t input) q s)
+        (sym (cover.same k d at s (omega arith)))
+        (by_touch right (rects_of t other) ((cover.rights).full k d at) p s lt less)
+        (by_touch left (rects_of t input) ((cover.lefts).full k d at) q s under within)
+        some;
+  };
 }
 
 module _ (matches : Row → Row → Bool) (lonely : Row → List Row → List Row) (lonely_bags : GivesBags lonely)
-    (left right : Grid) (input other : ℕ) (ls : ℕ → ℕ → List Row) (rs : ℕ → ℕ → List Row) (in_column : MatchesInColumn matches left ls right rs) where
+    (left right : Grid) (input other : ℕ) (ls : ℕ → ℕ → List Row) (rs : ℕ → ℕ → List Row) (in_column : MatchesInColumn matches (record { grid = left; rows = ls }) (record { grid = right; rows = rs })) where
   pub right_driven : (ts : List Reads) → IsDriven right other left input ts
       → SameBag (flat_map (λ t. driven (λ r l. matches l r) lonely (reading right rs (rects_of t other)) (reading left ls (rects_of t input))) ts) (driven (λ r l. matches l r) lonely (whole right rs) (whole left ls))
   right_driven ts cover = left_driven (λ r l. matches l r) lonely lonely_bags right left other input rs ls (in_column_swap in_column) ts cover
 
 module _ (matches : Row → Row → Bool) (gives : Row → List Row → List Row) (lonely : Row → List Row → List Row) (bags : GivesBags gives) (lonely_bags : GivesBags lonely)
-    (left right : Grid) (input other : ℕ) (ls : ℕ → ℕ → List Row) (rs : ℕ → ℕ → List Row) (in_column : MatchesInColumn matches left ls right rs) where
+    (left right : Grid) (input other : ℕ) (ls : ℕ → ℕ → List Row) (rs : ℕ → ℕ → List Row) (in_column : MatchesInColumn matches (record { grid = left; rows = ls }) (record { grid = right; rows = rs })) where
   pub full_columns : (ts : List Reads) → SameColumns left input right other ts
       → SameBag (flat_map (λ t. both_driven matches gives lonely (reading left ls (rects_of t input)) (reading right rs (rects_of t other))) ts) (both_driven matches gives lonely (whole left ls) (whole right rs))
   full_columns ts cover = by_weights (λ w.

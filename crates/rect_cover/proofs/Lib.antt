@@ -1,14 +1,12 @@
-pub mod Steps
-pub mod Touched
-pub mod Zipped
-pub mod Sums
-pub mod Areas
-pub mod Sides
-pub mod Columns
-pub mod Fulls
-pub mod Places
-pub mod Chains
-pub mod Vertices
-pub mod RowWise
-pub mod Aggregates
-pub mod Joins
+mod Steps
+mod Touched
+mod Zipped
+mod Sums
+mod Areas
+mod Sides
+mod Columns
+mod Fulls
+mod Places
+mod Chains
+mod Vertices
+mod Joins

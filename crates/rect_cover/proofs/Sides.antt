@@ -5,8 +5,7 @@ use Rattle.std.proofs.lemmas.Bool.{cases_eq}
 use Rattle.std.specs.List.{flat_map, filter, sum_by}
 use Rattle.row_core.specs.Bags.{SameBag}
 use Rattle.bag_laws.specs.Rows.{OneRow as Row}
-use Rattle.bag_laws.proofs.Totals.{total, total-each, total-where, total-times, total-flat_map, total-map, total-filter, total-zero, total-scaled}
-use Rattle.bag_laws.proofs.Alike.{by_weights, weighs}
+use Rattle.bag_laws.proofs.Laws.{total, total-each, total-where, total-times, total-flat_map, total-map, total-filter, total-zero, total-scaled, by_weights, weighs}
 use Rattle.rect_cover.specs.declared.grid.Grid.{Grid}
 use Rattle.rect_cover.specs.Cells.{Reads, rects_of, times, whole, reading}
 use Rattle.rect_cover.specs.Covers.{EachOnce, HasWhole, HasPartners, IsDriven, EachPair}
@@ -43,7 +42,7 @@ reads_whole grid input rows t has = by_weights (λ w.
 
 -- Left, semi and anti joins.
 module _ (matches : Row → Row → Bool) (gives : Row → List Row → List Row) (bags : GivesBags gives)
-    (left right : Grid) (input other : ℕ) (ls : ℕ → ℕ → List Row) (rs : ℕ → ℕ → List Row) (in_column : MatchesInColumn matches left ls right rs) where
+    (left right : Grid) (input other : ℕ) (ls : ℕ → ℕ → List Row) (rs : ℕ → ℕ → List Row) (in_column : MatchesInColumn matches (record { grid = left; rows = ls }) (record { grid = right; rows = rs })) where
   -- a subtask that has the cell has all matches of its rows
   matched : (t : Reads) (p s : ℕ) (l : Row) → p < left.producers → s < left.cells
       → ((q : ℕ) → q < right.producers → s < right.cells → times (rects_of t other) q s ≡ 1)
@@ -89,7 +88,7 @@ module _ (matches : Row → Row → Bool) (gives : Row → List Row → List Row
       ap (λ (n : ℕ). times (rects_of t input) p s * n)
       (total-where (StaysIn s) (given_in w t) (given w) (ls p s)
       (λ l stays. weighs (bags.same l (filter (matches l) (reading right rs (rects_of t other))) (filter (matches l) (whole right rs))
-      (matched t p s l lt less (λ q below within. partners p q s lt less below within (omega arith)) stays)) w)
+      (matched t p s l lt less (λ q below within. partners.each p q s lt less below within (omega arith)) stays)) w)
       (λ k d at q u below within differ. in_column.apart p s q u lt less below within differ k d at)))
       (cases_eq (times (rects_of t input) p s) 0)
 
@@ -122,7 +121,7 @@ module _ (matches : Row → Row → Bool) (pair : Row → Row → Row) where
       (λ l. total-map w (λ r. pair l r) (filter (matches l) ys) ∙ total-filter (λ r. w (pair l r)) (matches l) ys)
 
 module _ (matches : Row → Row → Bool) (pair : Row → Row → Row)
-    (left right : Grid) (input other : ℕ) (ls : ℕ → ℕ → List Row) (rs : ℕ → ℕ → List Row) (in_column : MatchesInColumn matches left ls right rs) where
+    (left right : Grid) (input other : ℕ) (ls : ℕ → ℕ → List Row) (rs : ℕ → ℕ → List Row) (in_column : MatchesInColumn matches (record { grid = left; rows = ls }) (record { grid = right; rows = rs })) where
   -- what the rows of a left and a right cell give
   cells_weight : (Row → ℕ) → ℕ → ℕ → ℕ → ℕ → ℕ
   cells_weight w p s q u = total (λ l. total (pair_weight matches pair w l) (rs q u)) (ls p s)

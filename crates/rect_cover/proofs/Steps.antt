@@ -5,7 +5,7 @@ use Rattle.std.proofs.lemmas.Bool.{cases_lt}
 use Rattle.std.proofs.lemmas.List.{take_all}
 use Rattle.std.proofs.lemmas.List.Sums.{sum_by_more, sum_by_more_le}
 use Rattle.std.specs.List.{sum_by}
-use Rattle.bag_laws.proofs.Totals.{total_is, total-agree}
+use Rattle.bag_laws.proofs.Laws.{total_is, total-agree}
 use Rattle.rect_cover.specs.declared.rect.Rect.{Rect}
 use Rattle.rect_cover.specs.Cells.{is_inside, times}
 

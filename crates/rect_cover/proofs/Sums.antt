@@ -2,7 +2,7 @@
 use Rattle.std.proofs.Common.{◌≡◌, ℕ, zero, suc, ◌+◌, ◌*◌, ◌<◌, List, refl, sym, ◌∙◌, ap, arith}
 use Rattle.std.proofs.Math.Nat.{mul-zero, mul-add}
 use Rattle.bag_laws.specs.Rows.{OneRow as Row}
-use Rattle.bag_laws.proofs.Totals.{total, total-append, total-zero, total-add}
+use Rattle.bag_laws.proofs.Laws.{total, total-append, total-zero, total-add}
 use Rattle.rect_cover.specs.Cells.{gathered}
 
 -- the sum of f over the numbers below n

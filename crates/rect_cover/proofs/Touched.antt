@@ -66,5 +66,5 @@ pub by_touch : (grid : Grid) (rects : List Rect) → HasColumns grid rects → (
 by_touch grid rects has p s lt less = by (touches rects s) refl
   where
     by : (b : Bool) → touches rects s ≡ b → times rects p s ≡ cond b 1 0
-    by true is = has p s lt less is
+    by true is = has.each p s lt less is
     by false is = untouched rects p s is

@@ -1,18 +1,17 @@
 -- One law for every kind of head.
 use Rattle.std.proofs.Common.{add-zero, zero-add, ◌≡◌, get_or, ℕ, zero, suc, ◌+◌, ◌<◌, Bool, List, [], ◌∷◌, map, length, drop, refl, sym, subst, ◌∙◌, arith}
 use Rattle.std.proofs.lemmas.List.{length-map}
+use Rattle.std.proofs.lemmas.Option.{slice_get-get_or}
 use Rattle.std.specs.List.{flat_map, filter, AllZip}
 use Rattle.row_core.specs.Bags.{SameBag}
 use Rattle.bag_laws.specs.Rows.{OneRow as Row}
-use Rattle.bag_laws.proofs.Totals.{total-flat_map, total-zero}
-use Rattle.bag_laws.proofs.Counts.{SameBag-append, SameBag-filter, SameBag-map}
-use Rattle.bag_laws.proofs.Alike.{by_weights, same_refl, same_on, same_flat_map, flat_map-split, flat_map-joined}
+use Rattle.bag_laws.proofs.Laws.{total-flat_map, total-zero, SameBag-append, SameBag-filter, SameBag-map, by_weights, same_refl, same_on, same_flat_map, flat_map-split, flat_map-joined}
 use Rattle.rect_cover.specs.declared.grid.Grid.{Grid}
-use Rattle.rect_cover.specs.Cells.{Reads, rects_of, whole, reading}
+use Rattle.rect_cover.specs.Cells.{Reads, Input, rects_of, whole, reading}
 use Rattle.rect_cover.specs.Covers.{EachOnce, HasWhole, Demand, IsCover}
 use Rattle.rect_cover.specs.Heads.{driven, GivesBags}
 use Rattle.rect_cover.specs.Chains.{chained, GivesSame}
-use Rattle.rect_cover.specs.Vertices.{Input, Head, by_row, by_key, by_left, by_right, by_pair, by_both, kind_of, grids_of, shape_of, input_at, head_rows, wholes, readings, IsPlaced, GoesByBags, Link, plain, widened, rest_of, linked, LinksByBags}
+use Rattle.rect_cover.specs.Vertices.{Head, by_row, by_key, by_left, by_right, by_pair, by_both, kind_of, grids_of, shape_of, input_at, head_rows, wholes, readings, IsPlaced, GoesByBags, Link, plain, widened, rest_of, linked, LinksByBags}
 use Rattle.rect_cover.proofs.Sides.{row_wise, reads_whole, left_driven, inner_pairs}
 use Rattle.rect_cover.proofs.Columns.{keyed_columns}
 use Rattle.rect_cover.proofs.Fulls.{right_driven, full_columns}
@@ -40,7 +39,8 @@ rows_joined (input ∷ inputs) first ts once =
 pub head_law : (head : Head) (inputs : List Input) (ts : List Reads) → Demand (kind_of head) (grids_of inputs) ts → IsPlaced head inputs
     → SameBag (flat_map (λ t. head_rows head (readings inputs 0 t)) ts) (head_rows head (wholes inputs))
 head_law (by_row f) inputs ts demand placed =
-    let once : OnceFrom 0 inputs ts = λ k d lt. subst (λ (n : ℕ). EachOnce (get_or (grids_of inputs) k d) n ts) (sym (zero-add k)) (demand k d lt) in
+    let once : OnceFrom 0 inputs ts = λ k d lt. subst (λ (n : ℕ). EachOnce (get_or (grids_of inputs) k d) n ts) (sym (zero-add k))
+    (demand.each k (get_or (grids_of inputs) k d) (slice_get-get_or (grids_of inputs) k d lt)) in
     same_on (flat_map-joined f (λ t. flat_map (λ rows. rows) (readings inputs 0 t)) ts)
     (same_flat_map f f (flat_map (λ t. flat_map (λ rows. rows) (readings inputs 0 t)) ts) (flat_map (λ rows. rows) (wholes inputs)) (λ x. same_refl (f x)) (rows_joined inputs 0 ts once))
 head_law (by_key meets op) (input ∷ []) ts demand (keyed, in_column) = keyed_columns meets op keyed input.grid input.rows in_column 0 ts demand

@@ -1,15 +1,16 @@
 //! Tests of the rects that all subtasks have of one input.
 
-ghost use Rattle.std.specs.Prelude.{◌≡◌, ◌<◌, ◌≤◌, ◌↔◌, ℕ, IsTrue, All, sum_by, count_by, length, slice_index_or};
-ghost use Rattle.rect_cover.specs.Cells.{Reads, rects_of, times, touches as touches_column};
-ghost use Rattle.rect_cover.specs.Covers.{LiesIn, EachOnce, HeadsOnce, ByColumns, IsDriven};
+ghost use Rattle.std.specs.Prelude.{◌≡◌, ◌<◌, ◌≤◌, ◌↔◌, ℕ, IsTrue, All};
+ghost use Rattle.rect_cover.specs.Cells.{rects_of, times, times_in_all, touching as touched_by};
+ghost use Rattle.rect_cover.specs.Covers.{LiesIn, EachOnce, HeadsOnce, HasColumns};
+ghost use Rattle.rect_cover.specs.Covers.{ByColumns, IsDriven};
 
 use crate::one_input::{change_after, has_columns, has_partners, times_in, touches};
 use crate::{Grid, Subtask};
 
-/// Whether the cell is in exactly one subtask, once.
+// Whether the cell is in exactly one subtask, once.
 fn is_once(subtasks: &[Subtask], input: usize, producer: u32, cell: u32) -> bool
-    ensures { IsTrue result ↔ (sum_by (λ subtask. times (rects_of subtask input) producer cell) subtasks.now ≡ 1) }
+    ensures { IsTrue result ↔ (times_in_all subtasks.now input producer cell ≡ 1) }
 {
     let mut found = false;
     for subtask in subtasks {
@@ -24,7 +25,8 @@ fn is_once(subtasks: &[Subtask], input: usize, producer: u32, cell: u32) -> bool
     found
 }
 
-/// A later producer, up to the end, before which the column's cells stand in each subtask as often as the producer's.
+// A later producer, up to the end, before which the column's cells stand in each subtask as often
+// as the producer's.
 pub fn change_after_in_all(
     subtasks: &[Subtask],
     input: usize,
@@ -36,7 +38,8 @@ pub fn change_after_in_all(
     ensures after { producer < result }
     ensures within { result ≤ end }
     ensures same { All (λ subtask. (p : ℕ) → producer ≤ p → p < result
-        → times (rects_of subtask input) p cell ≡ times (rects_of subtask input) producer cell) subtasks.now }
+        → times (rects_of subtask input) p cell ≡ times (rects_of subtask input) producer cell)
+        subtasks.now }
 {
     let mut change = end;
     for subtask in subtasks {
@@ -45,10 +48,10 @@ pub fn change_after_in_all(
     change
 }
 
-/// Whether each cell of the column is in exactly one subtask, once.
+// Whether each cell of the column is in exactly one subtask, once.
 fn column_once(subtasks: &[Subtask], input: usize, cell: u32, producers: u32) -> bool
     ensures { IsTrue result ↔ ((p : ℕ) → p < producers
-        → sum_by (λ subtask. times (rects_of subtask input) p cell) subtasks.now ≡ 1) }
+        → times_in_all subtasks.now input p cell ≡ 1) }
 {
     let mut producer = 0;
     while producer < producers {
@@ -60,7 +63,7 @@ fn column_once(subtasks: &[Subtask], input: usize, cell: u32, producers: u32) ->
     true
 }
 
-/// Whether each cell is in exactly one subtask, once.
+// Whether each cell is in exactly one subtask, once.
 pub fn each_once(subtasks: &[Subtask], input: usize, grid: &Grid) -> bool
     ensures { IsTrue result ↔ EachOnce grid.now input subtasks.now }
 {
@@ -72,21 +75,17 @@ pub fn each_once(subtasks: &[Subtask], input: usize, grid: &Grid) -> bool
     true
 }
 
-/// Whether each cell of each input is in exactly one subtask, once.
 pub fn heads_once(subtasks: &[Subtask], heads: &[Grid]) -> bool
     ensures { IsTrue result ↔ HeadsOnce heads.now subtasks.now }
 {
-    for (input, grid) in heads.iter().enumerate() {
-        if !each_once(subtasks, input, grid) {
-            return false;
-        }
-    }
-    true
+    heads
+        .iter()
+        .enumerate()
+        .all(|(input, grid)| each_once(subtasks, input, grid))
 }
 
-/// How many subtasks touch the column.
 fn touching(subtasks: &[Subtask], input: usize, cell: u32) -> usize
-    ensures { result ≡ count_by (λ subtask. touches_column (rects_of subtask input) cell) subtasks.now }
+    ensures { result ≡ touched_by subtasks.now input cell }
 {
     subtasks
         .iter()
@@ -95,30 +94,26 @@ fn touching(subtasks: &[Subtask], input: usize, cell: u32) -> usize
 }
 
 fn columns_once(subtasks: &[Subtask], input: usize, cells: u32) -> bool
-    ensures { IsTrue result ↔ ((s : ℕ) → s < cells
-        → count_by (λ subtask. touches_column (rects_of subtask input) s) subtasks.now ≡ 1) }
+    ensures { IsTrue result ↔ ((s : ℕ) → s < cells → touched_by subtasks.now input s ≡ 1) }
 {
-    for cell in 0..cells {
-        if touching(subtasks, input, cell) != 1 {
-            return false;
-        }
-    }
-    true
+    (0..cells).all(|cell| touching(subtasks, input, cell) == 1)
 }
 
-/// Whether each column is in exactly one subtask, whole.
+fn all_whole(subtasks: &[Subtask], input: usize, grid: &Grid) -> bool
+    ensures { IsTrue result
+        ↔ All (λ subtask. HasColumns grid.now (rects_of subtask input)) subtasks.now }
+{
+    subtasks
+        .iter()
+        .all(|subtask| has_columns(subtask.rects(input), grid))
+}
+
 pub fn by_columns(subtasks: &[Subtask], input: usize, grid: &Grid) -> bool
     ensures { IsTrue result ↔ ByColumns grid.now input subtasks.now }
 {
-    for subtask in subtasks {
-        if !has_columns(subtask.rects(input), grid) {
-            return false;
-        }
-    }
-    columns_once(subtasks, input, grid.cells)
+    all_whole(subtasks, input, grid) && columns_once(subtasks, input, grid.cells)
 }
 
-/// Whether each left cell is in exactly one subtask, which has every right cell of its column.
 pub fn is_driven(
     subtasks: &[Subtask],
     left: &Grid,
@@ -129,10 +124,10 @@ pub fn is_driven(
     requires { All (λ subtask. All (LiesIn left.now) (rects_of subtask input)) subtasks.now }
     ensures { IsTrue result ↔ IsDriven left.now input right.now other subtasks.now }
 {
-    for subtask in subtasks {
-        if !has_partners(left, right, subtask.rects(input), subtask.rects(other)) {
-            return false;
-        }
-    }
-    each_once(subtasks, input, left)
+    subtasks.iter().all(|subtask| has_partners(
+        left,
+        right,
+        subtask.rects(input),
+        subtask.rects(other),
+    )) && each_once(subtasks, input, left)
 }

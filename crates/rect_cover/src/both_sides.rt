@@ -1,14 +1,15 @@
 //! Tests of the rects that the subtasks of a join have of its two sides.
 
-ghost use Rattle.std.specs.Prelude.{◌≡◌, ◌<◌, ◌*◌, ◌↔◌, max, ℕ, IsTrue, sum_by};
-ghost use Rattle.rect_cover.specs.Cells.{rects_of, times, touches as touches_column};
+ghost use Rattle.std.specs.Prelude.{◌≡◌, ◌<◌, ◌↔◌, ℕ, IsTrue};
+ghost use Rattle.rect_cover.specs.Cells.{pairs_in_all, rects_of, touches as touches_column};
 ghost use Rattle.rect_cover.specs.Covers.{EachPair, SameColumns};
 
 use crate::all_subtasks::{by_columns, change_after_in_all};
 use crate::one_input::{times_in, touches};
 use crate::{Grid, Subtask};
 
-/// Whether the pair of the column's cells of a left and a right producer is in exactly one subtask, once.
+// Whether the pair of the column's cells of a left and a right producer is in exactly one subtask,
+// once.
 fn pair_once(
     subtasks: &[Subtask],
     input: usize,
@@ -17,8 +18,7 @@ fn pair_once(
     right: u32,
     cell: u32,
 ) -> bool
-    ensures { IsTrue result ↔ (sum_by (λ subtask. times (rects_of subtask input) left cell
-        * times (rects_of subtask other) right cell) subtasks.now ≡ 1) }
+    ensures { IsTrue result ↔ (pairs_in_all subtasks.now input other left right cell ≡ 1) }
 {
     let mut found = false;
     for subtask in subtasks {
@@ -36,7 +36,7 @@ fn pair_once(
     found
 }
 
-/// The same, for every right producer.
+// The same, for every right producer.
 fn pairs_of(
     subtasks: &[Subtask],
     input: usize,
@@ -45,8 +45,8 @@ fn pairs_of(
     cell: u32,
     producers: u32,
 ) -> bool
-    ensures { IsTrue result ↔ ((q : ℕ) → q < producers → sum_by (λ subtask. times (rects_of subtask input) left cell
-        * times (rects_of subtask other) q cell) subtasks.now ≡ 1) }
+    ensures { IsTrue result ↔ ((q : ℕ) → q < producers
+        → pairs_in_all subtasks.now input other left q cell ≡ 1) }
 {
     let mut right = 0;
     while right < producers {
@@ -58,7 +58,7 @@ fn pairs_of(
     true
 }
 
-/// The same, for every left and right producer.
+// The same, for every left and right producer.
 fn column_pairs(
     subtasks: &[Subtask],
     left: &Grid,
@@ -68,7 +68,7 @@ fn column_pairs(
     cell: u32,
 ) -> bool
     ensures { IsTrue result ↔ ((p q : ℕ) → p < left.now.producers → q < right.now.producers
-        → sum_by (λ subtask. times (rects_of subtask input) p cell * times (rects_of subtask other) q cell) subtasks.now ≡ 1) }
+        → pairs_in_all subtasks.now input other p q cell ≡ 1) }
 {
     let mut producer = 0;
     while producer < left.producers {
@@ -80,7 +80,6 @@ fn column_pairs(
     true
 }
 
-/// Whether in each column each pair of a left and a right cell is in exactly one subtask.
 pub fn each_pair(
     subtasks: &[Subtask],
     left: &Grid,
@@ -100,17 +99,13 @@ pub fn each_pair(
 
 fn touch_the_same(subtask: &Subtask, input: usize, other: usize, cells: u32) -> bool
     ensures { IsTrue result ↔ ((s : ℕ) → s < cells
-        → touches_column (rects_of subtask.now input) s ≡ touches_column (rects_of subtask.now other) s) }
+        → touches_column (rects_of subtask.now input) s
+        ≡ touches_column (rects_of subtask.now other) s) }
 {
-    for cell in 0..cells {
-        if touches(subtask.rects(input), cell) != touches(subtask.rects(other), cell) {
-            return false;
-        }
-    }
-    true
+    (0..cells).all(|cell| touches(subtask.rects(input), cell)
+        == touches(subtask.rects(other), cell))
 }
 
-/// Whether each column is in exactly one subtask, whole, and on both sides in the same one.
 pub fn same_columns(
     subtasks: &[Subtask],
     left: &Grid,
@@ -120,10 +115,10 @@ pub fn same_columns(
 ) -> bool
     ensures { IsTrue result ↔ SameColumns left.now input right.now other subtasks.now }
 {
-    for subtask in subtasks {
-        if !touch_the_same(subtask, input, other, left.cells.max(right.cells)) {
-            return false;
-        }
-    }
-    by_columns(subtasks, input, left) && by_columns(subtasks, other, right)
+    let cells = left.cells.max(right.cells);
+    subtasks
+        .iter()
+        .all(|subtask| touch_the_same(subtask, input, other, cells))
+        && by_columns(subtasks, input, left)
+        && by_columns(subtasks, other, right)
 }

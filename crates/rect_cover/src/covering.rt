@@ -20,7 +20,7 @@ pub fn covers(shape: &Shape, assignment: &Assignment) -> bool
         && meets_demand(shape.kind, heads, shape.wide.as_slice(), subtasks)
 }
 
-/// Whether the inputs are those of the heads and then the wide ones, these whole.
+// Whether the inputs are those of the heads and then the wide ones, these whole.
 fn is_formed(heads: &[Grid], wide: &[Grid], inputs: &[Rects]) -> bool
     ensures { IsTrue result ↔ (AllZip IsInput (heads.now ++ wide.now) inputs.now
         × AllZip HasWhole wide.now (drop (length heads.now) inputs.now)) }
@@ -32,26 +32,23 @@ fn is_formed(heads: &[Grid], wide: &[Grid], inputs: &[Rects]) -> bool
     are_inputs(heads, first) && are_wide(wide, rest)
 }
 
-/// Whether each list of rects is of the grid in its place, whole, and there are as many grids.
 fn are_wide(grids: &[Grid], inputs: &[Rects]) -> bool
-    ensures { IsTrue result ↔ (AllZip IsInput grids.now inputs.now × AllZip HasWhole grids.now inputs.now) }
+    ensures { IsTrue result
+        ↔ (AllZip IsInput grids.now inputs.now × AllZip HasWhole grids.now inputs.now) }
 {
     are_inputs(grids, inputs) && are_whole(grids, inputs)
 }
 
 fn all_formed(heads: &[Grid], wide: &[Grid], subtasks: &[Subtask]) -> bool
     ensures { IsTrue result ↔ (All (AllZip IsInput (heads.now ++ wide.now)) subtasks.now
-        × All (λ subtask. AllZip HasWhole wide.now (drop (length heads.now) subtask)) subtasks.now) }
+        × All (λ subtask. AllZip HasWhole wide.now (drop (length heads.now) subtask))
+        subtasks.now) }
 {
-    for subtask in subtasks {
-        if !is_formed(heads, wide, subtask.as_slice()) {
-            return false;
-        }
-    }
-    true
+    subtasks
+        .iter()
+        .all(|subtask| is_formed(heads, wide, subtask.as_slice()))
 }
 
-/// Whether the subtasks meet what the kind demands of the head's inputs.
 fn meets_demand(kind: ShapeKind, heads: &[Grid], wide: &[Grid], subtasks: &[Subtask]) -> bool
     requires { All (AllZip IsInput (heads.now ++ wide.now)) subtasks.now }
     ensures { IsTrue result ↔ Demand kind heads.now subtasks.now }

@@ -1,7 +1,7 @@
 use crate::CellSizes;
 
-/// What an input has: a row of cells for each producer, and the cells' sizes. The cells of one number, of all
-/// producers, are a column.
+/// What an input has: a row of cells for each producer, and the cells' sizes. The cells of one
+/// number, of all producers, are a column.
 #[derive(Debug, Drop)]
 pub struct Grid {
     pub producers: u32,

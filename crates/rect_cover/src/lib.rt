@@ -1,5 +1,6 @@
-//! Which subtasks of a vertex read which cells of its inputs: grids, rects of cells, and the assignments that are covers.
-//! For every cover the sum over the subtasks of a vertex's operators is its operators on the whole; the laws say it.
+//! Which subtasks of a vertex read which cells of its inputs: grids, rects of cells, and the
+//! assignments that are covers. For every cover the sum over the subtasks of a vertex's operators
+//! is its operators on the whole; the laws say it.
 #![tactic(auto)]
 
 mod all_subtasks;
@@ -27,9 +28,7 @@ pub use laws::{
     column_law, full_law, inner_law, keyed_law, left_driven_law, right_driven_law, row_wise_law,
     vertex_law, vertices_go_by_bags,
 };
-pub use operators::{
-    hash_columns, joins_are_heads, operators_go_by_bags, row_operators, widened_joins,
-};
+pub use operators::{hash_columns, heads_go_by_bags, joins_are_heads, links_go_by_bags};
 pub use rect::Rect;
 pub use rects::Rects;
 pub use shape::Shape;

@@ -1,4 +1,5 @@
-//! Tests of the rects of one input. A column is looked at where the rects of it begin and end, and not cell by cell.
+//! Tests of the rects of one input. A column is looked at where the rects of it begin and end, and
+//! not cell by cell.
 
 ghost use Rattle.std.specs.Prelude.{◌≡◌, ◌<◌, ◌≤◌, ◌↔◌, ℕ, IsTrue, All};
 ghost use Rattle.std.specs.List.{AllZip};
@@ -7,7 +8,6 @@ ghost use Rattle.rect_cover.specs.Covers.{LiesIn, IsInput, HasWhole, HasColumns,
 
 use crate::{Grid, Rect, Rects};
 
-/// How often the cell stands in the rects.
 pub fn times_in(rects: &[Rect], producer: u32, cell: u32) -> usize
     ensures { result ≡ times rects.now producer cell }
 {
@@ -17,19 +17,20 @@ pub fn times_in(rects: &[Rect], producer: u32, cell: u32) -> usize
         .count()
 }
 
-/// Whether a rect has cells of the column.
 pub fn touches(rects: &[Rect], cell: u32) -> bool
     ensures { result ≡ touches_column rects.now cell }
 {
     rects.iter().any(|rect| rect.spans(cell))
 }
 
-/// A later producer, up to the end, before which the column's cells stand in the rects as often as the producer's.
+// A later producer, up to the end, before which the column's cells stand in the rects as often as
+// the producer's.
 pub fn change_after(rects: &[Rect], producer: u32, cell: u32, end: u32) -> u32
     requires { producer < end }
     ensures after { producer < result }
     ensures within { result ≤ end }
-    ensures same { (p : ℕ) → producer ≤ p → p < result → times rects.now p cell ≡ times rects.now producer cell }
+    ensures same { (p : ℕ) → producer ≤ p → p < result
+        → times rects.now p cell ≡ times rects.now producer cell }
 {
     let mut change = end;
     for rect in rects {
@@ -38,9 +39,10 @@ pub fn change_after(rects: &[Rect], producer: u32, cell: u32, end: u32) -> u32
     change
 }
 
-/// Whether each cell of the column stands in the rects at least so often, and at most once.
+// Whether each cell of the column stands in the rects at least so often, and at most once.
 pub fn has_column(rects: &[Rect], cell: u32, producers: u32, least: usize) -> bool
-    ensures { IsTrue result ↔ ((p : ℕ) → p < producers → (least ≤ times rects.now p cell) × (times rects.now p cell ≤ 1)) }
+    ensures { IsTrue result ↔ ((p : ℕ) → p < producers
+        → (least ≤ times rects.now p cell) × (times rects.now p cell ≤ 1)) }
 {
     let mut producer = 0;
     while producer < producers {
@@ -53,7 +55,7 @@ pub fn has_column(rects: &[Rect], cell: u32, producers: u32, least: usize) -> bo
     true
 }
 
-/// Whether each cell of the grid stands in the rects at least so often, and at most once.
+// Whether each cell of the grid stands in the rects at least so often, and at most once.
 fn has_cells(rects: &[Rect], grid: &Grid, least: usize) -> bool
     ensures { IsTrue result ↔ ((p s : ℕ) → p < grid.now.producers → s < grid.now.cells
         → (least ≤ times rects.now p s) × (times rects.now p s ≤ 1)) }
@@ -75,55 +77,41 @@ fn lies_in(rect: Rect, grid: &Grid) -> bool
 fn all_lie_in(rects: &[Rect], grid: &Grid) -> bool
     ensures { IsTrue result ↔ All (LiesIn grid.now) rects.now }
 {
-    for rect in rects {
-        if !lies_in(*rect, grid) {
-            return false;
-        }
-    }
-    true
+    rects.iter().all(|rect| lies_in(*rect, grid))
 }
 
-/// Whether the rects are of the grid, no cell twice.
 fn is_input(rects: &[Rect], grid: &Grid) -> bool
     ensures { IsTrue result ↔ IsInput grid.now rects.now }
 {
     all_lie_in(rects, grid) && has_cells(rects, grid, 0)
 }
 
-/// Whether the rects have every cell of the grid once.
 fn has_whole(rects: &[Rect], grid: &Grid) -> bool
     ensures { IsTrue result ↔ HasWhole grid.now rects.now }
 {
     has_cells(rects, grid, 1)
 }
 
-/// Whether each list of rects is of the grid in its place, and there are as many grids.
 pub fn are_inputs(grids: &[Grid], inputs: &[Rects]) -> bool
     ensures { IsTrue result ↔ AllZip IsInput grids.now inputs.now }
 {
-    match (grids.split_first(), inputs.split_first()) {
-        (None, None) => true,
-        (Some((grid, grids)), Some((rects, inputs))) => {
-            is_input(rects.as_slice(), grid) && are_inputs(grids, inputs)
-        }
-        _ => false,
-    }
+    grids.len() == inputs.len()
+        && grids
+            .iter()
+            .zip(inputs)
+            .all(|(grid, rects)| is_input(rects.as_slice(), grid))
 }
 
-/// Whether each list of rects has every cell of the grid in its place, and there are as many grids.
 pub fn are_whole(grids: &[Grid], inputs: &[Rects]) -> bool
     ensures { IsTrue result ↔ AllZip HasWhole grids.now inputs.now }
 {
-    match (grids.split_first(), inputs.split_first()) {
-        (None, None) => true,
-        (Some((grid, grids)), Some((rects, inputs))) => {
-            has_whole(rects.as_slice(), grid) && are_whole(grids, inputs)
-        }
-        _ => false,
-    }
+    grids.len() == inputs.len()
+        && grids
+            .iter()
+            .zip(inputs)
+            .all(|(grid, rects)| has_whole(rects.as_slice(), grid))
 }
 
-/// Whether the rects have each column that they touch with all its producers.
 pub fn has_columns(rects: &[Rect], grid: &Grid) -> bool
     ensures { IsTrue result ↔ HasColumns grid.now rects.now }
 {
@@ -135,7 +123,6 @@ pub fn has_columns(rects: &[Rect], grid: &Grid) -> bool
     true
 }
 
-/// Whether who has a left cell has every right cell of its column.
 pub fn has_partners(left: &Grid, right: &Grid, lefts: &[Rect], rights: &[Rect]) -> bool
     requires { All (LiesIn left.now) lefts.now }
     ensures { IsTrue result ↔ HasPartners left.now right.now lefts.now rights.now }

@@ -25,12 +25,14 @@ impl Rect {
         self.s0 <= cell && cell < self.s1
     }
 
-    /// A later producer, up to the end, before which the column's cells stand in it just as the producer's does.
+    // A later producer, up to the end, before which the column's cells stand in it just as the
+    // producer's does.
     pub(crate) fn change_after(self, producer: u32, cell: u32, end: u32) -> u32
         requires { producer < end }
         ensures after { producer < result }
         ensures within { result ≤ end }
-        ensures same { (p : ℕ) → producer ≤ p → p < result → is_inside self p cell ≡ is_inside self producer cell }
+        ensures same { (p : ℕ) → producer ≤ p → p < result
+            → is_inside self p cell ≡ is_inside self producer cell }
     {
         if producer < self.p0 {
             self.p0.min(end)

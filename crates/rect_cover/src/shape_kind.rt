@@ -1,4 +1,5 @@
-/// What the head of a vertex demands of the cells that a subtask reads; docs/SEMANTICS.md has a row for each.
+/// What the head of a vertex demands of the cells that a subtask reads; docs/SEMANTICS.md has a row
+/// for each.
 #[derive(Clone, Copy, Debug, PartialEq, Eq)]
 pub enum ShapeKind {
     /// A source, a filter, a projection, a union: row by row.

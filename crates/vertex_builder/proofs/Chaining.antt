@@ -7,16 +7,17 @@ use Rattle.std.proofs.lemmas.List.{get_or_default, take_all}
 use Rattle.std.proofs.lemmas.List.Elements.{All-nil, All-cons, All-append, All-filter, filter_passes, recursion_from_All}
 use Rattle.std.proofs.lemmas.Bool.Decides.{nat_tests}
 use Rattle.plan_model.specs.Checks.{plan_faults}
+use Rattle.plan_model.specs.Operators.{may_rebalance}
 use Rattle.plan_model.specs.Widths.{widths_of}
 use Rattle.plan_model.specs.declared.node.Node.{Node}
 use Rattle.plan_model.specs.declared.op.Op.{Op}
 use Rattle.plan_model.specs.declared.op.Op.TheVariants.{Source, Filter, Project, Explode, Union, Aggregate, Distinct, Join, Sink}
 use Rattle.plan_model.specs.declared.ship.Ship.TheVariants.{Forward, Rebalance}
 use Rattle.vertex_builder.specs.declared.edge.Edge.{Edge}
-use Rattle.vertex_builder.specs.Edges.{edges_into, edges_of, consumer_edges, op_ship, ship_into, is_forward, is_rowwise, may_chain, is_chained, chained_after, is_head}
+use Rattle.vertex_builder.specs.Edges.{edges_into, edges_of, consumer_edges, op_ship, ship_into, is_forward, may_chain, is_chained, chained_after, is_head}
 use Rattle.vertex_builder.specs.Links.{IsBelow, ListConsumers}
 use Rattle.vertex_builder.proofs.EdgeLists.{edges_of-next}
-use Rattle.vertex_builder.proofs.GoodNodes.{good_node}
+use Rattle.plan_model.proofs.Laws.{inputs_earlier, node_read}
 
 -- ---- where edges lead
 
@@ -43,7 +44,7 @@ front_rises nodes good (suc k) le =
     subst (All (Rises (length nodes))) (sym (ap (λ (m : ℕ). edges_of (take m nodes)) on ∙ edges_of-next nodes k node lt is))
     (All-append (Rises (length nodes)) (edges_of (take k nodes)) (edges_into k 0 node.inputs)
     (front_rises nodes good k (omega (arith, le)))
-    (into_rises (length nodes) k 0 node.inputs lt (recursion_from_All (λ input. input < k) node.inputs (good_node nodes k node good lt is).before)))
+    (into_rises (length nodes) k 0 node.inputs lt (recursion_from_All (λ input. input < k) node.inputs (inputs_earlier nodes k node good (node_read nodes k node lt is)))))
 
 pub edges_rise : (nodes : List Node) (node : ℕ) → plan_faults nodes ≡ [] → All (Rises (length nodes)) (consumer_edges nodes node)
 edges_rise nodes node good =
@@ -53,18 +54,17 @@ edges_rise nodes node good =
 same_number : (m n : ℕ) → (m == n) ≡ true → m ≡ n
 same_number m n e = grind (arith, nat_tests)
 
--- an edge from the node leads to a later node
-pub next_is_later : (nodes : List Node) (node : ℕ) (edges : List Edge) (edge : Edge) → plan_faults nodes ≡ [] → edges ≡ consumer_edges nodes node → 0 < length edges → IsBelow node (get_or edges 0 edge).into (length nodes)
-next_is_later nodes node edges edge good e lt =
-    let P : List Edge → Type 0 = All (Rises (length nodes)) in
-    let Q : List Edge → Type 0 = All (λ edge. (edge.from == node) ≡ true) in
-    let rise : Rises (length nodes) (get_or edges 0 edge) = subst P (sym e) (edges_rise nodes node good) 0 edge lt in
-    let here : (get_or edges 0 edge).from ≡ node = same_number (get_or edges 0 edge).from node (subst Q (sym e) (filter_passes (λ edge. edge.from == node) (edges_of nodes)) 0 edge lt) in
+-- the edges from a node lead to later nodes
+pub edges_lead_on : (nodes : List Node) (node : ℕ) → plan_faults nodes ≡ [] → All (λ edge. IsBelow node edge.into (length nodes)) (consumer_edges nodes node)
+edges_lead_on nodes node good = λ k d lt.
+    let edge = get_or (consumer_edges nodes node) k d in
+    let rise = edges_rise nodes node good k d lt in
+    let here : edge.from ≡ node = same_number edge.from node (filter_passes (λ (e : Edge). e.from == node) (edges_of nodes) k d lt) in
     record { above = omega (arith, rise.above, here); below = rise.below }
 
 -- ---- the chained edge among a node's edges
 
-forward : (op : Op) (rebalance : Bool) (place width : ℕ) → (is_rowwise op && is_forward (if rebalance then Rebalance else op_ship op place width)) ≡ (is_rowwise op && not rebalance)
+forward : (op : Op) (rebalance : Bool) (place width : ℕ) → (may_rebalance op && is_forward (if rebalance then Rebalance else op_ship op place width)) ≡ (may_rebalance op && not rebalance)
 forward (Source table columns) rebalance place width = refl
 forward (Filter test) true place width = refl
 forward (Filter test) false place width = refl
@@ -80,10 +80,10 @@ forward (Sink name) true place width = refl
 forward (Sink name) false place width = refl
 
 -- whether an edge may chain, by its consumer
-pub chains_at : (nodes : List Node) (edge : Edge) (node : Node) → slice_get nodes edge.into ≡ Some node → may_chain nodes edge ≡ (is_rowwise node.op && not node.rebalance)
+pub chains_at : (nodes : List Node) (edge : Edge) (node : Node) → slice_get nodes edge.into ≡ Some node → may_chain nodes edge ≡ (may_rebalance node.op && not node.rebalance)
 chains_at nodes edge node is =
     let width = get_or (widths_of nodes) edge.from 0 in
-    ap (λ (at : Option Node). option_map_or (λ n. is_rowwise n.op) at false && is_forward (option_map_or (λ n. ship_into n edge.place width) at Forward)) is
+    ap (λ (at : Option Node). option_map_or (λ n. may_rebalance n.op) at false && is_forward (option_map_or (λ n. ship_into n edge.place width) at Forward)) is
     ∙ forward node.op node.rebalance edge.place width
 
 into_of : Option Edge → Option ℕ
@@ -139,7 +139,7 @@ edges_are nodes lists node edges other h lt same = same ∙ get_or_default lists
 
 -- ---- heads
 
-pub no_head_of_chain : (nodes : List Node) (at place : ℕ) (node : Node) (inputs : List ℕ) → slice_get nodes at ≡ Some node → (is_rowwise node.op && not node.rebalance) ≡ false
+pub no_head_of_chain : (nodes : List Node) (at place : ℕ) (node : Node) (inputs : List ℕ) → slice_get nodes at ≡ Some node → (may_rebalance node.op && not node.rebalance) ≡ false
     → list_all (λ edge. not (is_chained nodes edge)) (edges_into at place inputs) ≡ true
 no_head_of_chain nodes at place node [] is unlike = refl
 no_head_of_chain nodes at place node (input ∷ inputs) is unlike =
@@ -152,7 +152,7 @@ no_head_of_chain nodes at place node (input ∷ inputs) is unlike =
     unchained true may rest e = ap (λ (b : Bool). not b && rest) e
     unchained false may rest e = refl
 
-pub head_of_chain : (nodes : List Node) (lists : List (List Edge)) (at place : ℕ) (node : Node) (inputs : List ℕ) → slice_get nodes at ≡ Some node → (is_rowwise node.op && not node.rebalance) ≡ true
+pub head_of_chain : (nodes : List Node) (lists : List (List Edge)) (at place : ℕ) (node : Node) (inputs : List ℕ) → slice_get nodes at ≡ Some node → (may_rebalance node.op && not node.rebalance) ≡ true
     → AllByRecursion (λ input. get_or lists input [] ≡ consumer_edges nodes input) inputs
     → list_all (λ edge. not (is_chained nodes edge)) (edges_into at place inputs) ≡ list_all (λ input. not (length (get_or lists input []) == 1)) inputs
 head_of_chain nodes lists at place node [] is like h = refl

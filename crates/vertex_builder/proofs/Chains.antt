@@ -7,7 +7,8 @@ use Rattle.std.proofs.lemmas.Option.{slice_get_within, slice_get_past, slice_get
 use Rattle.plan_model.specs.declared.node.Node.{Node}
 use Rattle.vertex_builder.specs.Edges.{chained_after}
 use Rattle.std.specs.List.{AllByRecursion}
-use Rattle.vertex_builder.specs.Vertices.{IsChain, OneChain, head_of, vertex_inputs, vertex_outputs, IsVertex, OneAnswer}
+use Rattle.vertex_builder.specs.Chains.{IsChain, OneChain}
+use Rattle.vertex_builder.specs.Vertices.{head_of, vertex_inputs, vertex_outputs, IsVertex, OneAnswer}
 use Rattle.vertex_builder.specs.declared.vertex.Vertex.{Vertex}
 
 -- ---- lists

@@ -1,7 +1,11 @@
+mod Apart
+mod Chaining
+mod Chains
+mod Covered
+mod EdgeLists
 mod Examples
-pub mod Chaining
-pub mod Chains
-pub mod EdgeLists
-pub mod GoodNodes
-pub mod Parts
-pub mod Ready
+mod Following
+pub mod Laws
+mod Membership
+mod Parts
+mod Ready

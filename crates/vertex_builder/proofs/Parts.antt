@@ -2,11 +2,11 @@
 use Rattle.std.proofs.Common.{◌≡◌, ℕ, ◌+◌, ◌<◌, Bool, false, List, [], ◌∷◌, ◌++◌, length, map, take, get_or, Option, Some, slice_get, ap, ◌∙◌, if◌then◌else◌}
 use Rattle.std.specs.Option.{option_map_or}
 use Rattle.std.proofs.lemmas.List.{get_or_default, map-append}
-use Rattle.plan_model.specs.Checks.{is_sink}
+use Rattle.plan_model.specs.Operators.{is_source, is_sink}
 use Rattle.plan_model.specs.declared.node.Node.{Node}
 use Rattle.vertex_builder.specs.declared.edge.Edge.{Edge}
 use Rattle.vertex_builder.specs.Edges.{edges_into, consumer_edges}
-use Rattle.vertex_builder.specs.Vertices.{is_source, files_input, vertex_input, vertex_inputs, text_output, vertex_output, vertex_outputs}
+use Rattle.vertex_builder.specs.Vertices.{files_input, vertex_input, vertex_inputs, text_output, vertex_output, vertex_outputs}
 use Rattle.vertex_builder.proofs.EdgeLists.{edges_into-next}
 
 pub inputs_of_edges : (nodes : List Node) (head : ℕ) (node : Node) → slice_get nodes head ≡ Some node → is_source node.op ≡ false → vertex_inputs nodes head ≡ map (vertex_input nodes) (edges_into head 0 node.inputs)

@@ -8,14 +8,18 @@ use Rattle.std.proofs.lemmas.Option.{slice_get-get_or}
 use Rattle.plan_model.specs.Checks.{plan_faults}
 use Rattle.plan_model.specs.declared.node.Node.{Node}
 use Rattle.vertex_builder.specs.Edges.{is_head}
-use Rattle.vertex_builder.specs.Vertices.{is_among, inputs_at, is_makeable}
+use Rattle.vertex_builder.specs.Chains.{is_among}
+use Rattle.vertex_builder.specs.Vertices.{inputs_at, is_makeable}
+use Rattle.vertex_builder.specs.Links.{Marks}
 use Rattle.vertex_builder.proofs.Chaining.{no_node}
 use Rattle.vertex_builder.proofs.EdgeLists.{range_more}
-use Rattle.vertex_builder.proofs.GoodNodes.{good_node}
+use Rattle.plan_model.proofs.Laws.{inputs_earlier}
 
--- each node of a plan is marked where it stands in the set
-pub record Marks (set : List ℕ) (count : ℕ) (marks : List Bool) : Type 0 where
-  pub at : (k : ℕ) → k < count → get_or marks k false ≡ is_among set k
+-- the marks of all nodes, as they are kept
+pub marks_of_all : (set : List ℕ) (all count : ℕ) (kept marks : List Bool) → count ≡ all → marks ≡ kept → Marks set count kept → Marks set all marks
+marks_of_all set all count kept marks e same h =
+    let P : List Bool → Type 0 = λ m. Marks set all m in
+    subst P (sym same) (subst (λ (n : ℕ). Marks set n kept) e h)
 
 all_agree : (p q : ℕ → Bool) (n : ℕ) (xs : List ℕ) → AllByRecursion (λ x. x < n) xs → ((x : ℕ) → x < n → p x ≡ q x) → list_all p xs ≡ list_all q xs
 all_agree p q n [] below e = refl
@@ -25,9 +29,8 @@ pub ready : (nodes : List Node) (made complete : List ℕ) (made_marks complete_
     → (is_head nodes node && not (get_or made_marks node false) && list_all (λ input. get_or complete_marks input false) (inputs_at nodes node)) ≡ is_makeable nodes made complete node
 ready nodes made complete made_marks complete_marks node faultless lt m c =
     let here = get_or nodes node no_node in
-    let good = good_node nodes node here faultless lt (get_or_default nodes node no_node here lt) in
     let inputs : inputs_at nodes node ≡ here.inputs = ap (λ (o : Option Node). option_map_or (λ n. n.inputs) o []) (slice_get-get_or nodes node no_node lt) in
-    let before : AllByRecursion (λ input. input < node) (inputs_at nodes node) = let P : List ℕ → Type 0 = AllByRecursion (λ input. input < node) in subst P (sym inputs) (recursion_from_All (λ input. input < node) here.inputs good.before) in
+    let before : AllByRecursion (λ input. input < node) (inputs_at nodes node) = let P : List ℕ → Type 0 = AllByRecursion (λ input. input < node) in subst P (sym inputs) (recursion_from_All (λ input. input < node) here.inputs (inputs_earlier nodes node here faultless (slice_get-get_or nodes node no_node lt))) in
     let marked = all_agree (λ input. get_or complete_marks input false) (is_among complete) node (inputs_at nodes node) before (λ x below. c.at x (omega (arith, below, lt))) in
     ap (λ (b : Bool). is_head nodes node && not b && list_all (λ input. get_or complete_marks input false) (inputs_at nodes node)) (m.at node lt)
     ∙ ap (λ (b : Bool). is_head nodes node && not (is_among made node) && b) marked

@@ -1,3 +1,4 @@
+pub mod Chains
 pub mod Edges
 pub mod Links
 pub mod Vertices

@@ -34,7 +34,8 @@ fn no_edges(alloc: Global, count: usize) -> Result<Vec<EdgeList>, NoMemory>
 
 fn add_inputs(lists: &mut Vec<EdgeList>, node: u32, inputs: &[u32]) -> Result<(), NoMemory>
     requires { length inputs.now < 2 ^ 32 }
-    ensures { OnOk result (HaveMore lists.old.items lists.new.items (edges_into node 0 inputs.now)) }
+    ensures { OnOk result
+        (HaveMore lists.old.items lists.new.items (edges_into node 0 inputs.now)) }
 {
     for (place, input) in inputs.iter().enumerate() {
         let edge = Edge {

@@ -1,4 +1,4 @@
-ghost use Rattle.std.specs.Prelude.{◌≡◌, ◌++◌, ◌∷◌, [], OnOk};
+ghost use Rattle.std.specs.Prelude.{◌≡◌, ◌++◌, ◌∷◌, [], OnOk, OnErr};
 
 use crate::Edge;
 use row_core::NoMemory;
@@ -39,7 +39,8 @@ impl EdgeList {
     }
 
     pub fn push(&mut self, edge: Edge) -> Result<(), NoMemory>
-        ensures { OnOk result (self.new ≡ self.old ++ edge ∷ []) }
+        ensures ok { OnOk result (self.new ≡ self.old ++ edge ∷ []) }
+        ensures err { OnErr result (self.new ≡ self.old) }
     {
         self.items.push(edge)?;
         Ok(())

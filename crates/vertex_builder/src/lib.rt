@@ -1,5 +1,5 @@
-//! The vertices of a plan: chains of nodes that run in one task, with what comes in and goes out. A vertex
-//! can be made once the vertices of its inputs are complete.
+//! The vertices of a plan: chains of nodes that run in one task, with what comes in and goes out.
+//! A vertex can be made once the vertices of its inputs are complete.
 #![tactic(auto)]
 
 mod builder;
@@ -26,7 +26,7 @@ mod widening;
 mod widenings;
 
 pub use builder::makeable;
-pub use chain::one_chain;
+pub use chain::{chained_nodes_take_one, chains_part_the_plan, one_chain};
 use edge::Edge;
 use edge_list::EdgeList;
 pub use making::one_answer;

@@ -1,7 +1,7 @@
 ghost use Rattle.std.specs.Prelude.{◌≡◌, ◌<◌, ◌^◌, ◌∷◌, [], length, map, All, IfOk};
+ghost use Rattle.plan_model.specs.Operators.{is_source};
 ghost use Rattle.vertex_builder.specs.Edges.{edges_into};
-ghost use Rattle.vertex_builder.specs.Links.{AreLinked};
-ghost use Rattle.vertex_builder.specs.Vertices.{is_source, files_input, text_output, vertex_input, vertex_inputs, vertex_output, vertex_outputs, head_of, IsVertex, OneAnswer};
+ghost use Rattle.vertex_builder.specs.Vertices.{files_input, text_output, vertex_input, vertex_inputs, vertex_output, vertex_outputs, head_of, IsVertex, OneAnswer};
 
 use crate::chain::chain_of;
 use crate::links::Links;
@@ -11,17 +11,16 @@ use plan_model::{Op, Ship};
 use row_core::NoMemory;
 use std::alloc::Global;
 
-/// The vertex of a head.
+// The vertex of a head.
 pub fn vertex_of(
     alloc: Global,
     links: &Links,
     max_parallelism: u32,
     head: u32,
 ) -> Result<Vertex, NoMemory>
-    requires linked { AreLinked links.now.nodes.now links.now.widths.now links.now.consumers.now }
-    requires within { head < length links.now.nodes.now }
+    requires { head < length links.now }
     ensures head { IfOk result (λ vertex. head_of vertex ≡ head) }
-    ensures vertex { IfOk result (λ vertex. IsVertex links.now.nodes.now max_parallelism vertex) }
+    ensures vertex { IfOk result (IsVertex links.now max_parallelism) }
 {
     let nodes = chain_of(alloc, links, head)?;
     let chain = nodes.as_slice();
@@ -35,13 +34,12 @@ pub fn vertex_of(
     })
 }
 
-/// What comes in at a head.
+// What comes in at a head.
 fn inputs_of(alloc: Global, links: &Links, head: u32) -> Result<VertexInputs, NoMemory>
-    requires linked { AreLinked links.now.nodes.now links.now.widths.now links.now.consumers.now }
-    requires within { head < length links.now.nodes.now }
-    ensures { IfOk result (λ inputs. inputs ≡ vertex_inputs links.now.nodes.now head) }
+    requires { head < length links.now }
+    ensures { IfOk result (λ inputs. inputs ≡ vertex_inputs links.now head) }
 {
-    let node = &links.nodes[head as usize];
+    let node = links.node(head);
     if is_source(&node.op) {
         return files_of(alloc, head);
     }
@@ -74,10 +72,10 @@ fn edge_inputs(
     node: u32,
     inputs: &[u32],
 ) -> Result<VertexInputs, NoMemory>
-    requires linked { AreLinked links.now.nodes.now links.now.widths.now links.now.consumers.now }
-    requires within { node < length links.now.nodes.now }
+    requires within { node < length links.now }
     requires few { length inputs.now < 2 ^ 32 }
-    ensures { IfOk result (λ made. made ≡ map (vertex_input links.now.nodes.now) (edges_into node 0 inputs.now)) }
+    ensures { IfOk result
+        (λ made. made ≡ map (vertex_input links.now) (edges_into node 0 inputs.now)) }
 {
     let mut made = Vec::with_capacity(alloc, inputs.len())?;
     for (place, input) in inputs.iter().enumerate() {
@@ -92,9 +90,8 @@ fn edge_inputs(
 }
 
 fn input_along(alloc: Global, links: &Links, edge: Edge) -> Result<VertexInput, NoMemory>
-    requires linked { AreLinked links.now.nodes.now links.now.widths.now links.now.consumers.now }
-    requires within { edge.into < length links.now.nodes.now }
-    ensures { IfOk result (λ input. input ≡ vertex_input links.now.nodes.now edge) }
+    requires { edge.into < length links.now }
+    ensures { IfOk result (λ input. input ≡ vertex_input links.now edge) }
 {
     Ok(VertexInput {
         from: Some(edge.from),
@@ -104,26 +101,21 @@ fn input_along(alloc: Global, links: &Links, edge: Edge) -> Result<VertexInput, 
     })
 }
 
-/// What goes out behind the last node of a chain.
+// What goes out behind the last node of a chain.
 fn outputs_of(
     alloc: Global,
     links: &Links,
     max_parallelism: u32,
     last: u32,
 ) -> Result<VertexOutputs, NoMemory>
-    requires linked { AreLinked links.now.nodes.now links.now.widths.now links.now.consumers.now }
-    requires within { last < length links.now.nodes.now }
-    ensures { IfOk result (λ outputs. outputs ≡ vertex_outputs links.now.nodes.now max_parallelism last) }
+    requires { last < length links.now }
+    ensures { IfOk result
+        (λ outputs. outputs ≡ vertex_outputs links.now max_parallelism last) }
 {
-    if links.nodes[last as usize].op.is_sink() {
+    if links.node(last).op.is_sink() {
         return text_of_sink(alloc);
     }
-    edge_outputs(
-        alloc,
-        links,
-        max_parallelism,
-        links.consumers[last as usize].as_slice(),
-    )
+    edge_outputs(alloc, links, max_parallelism, links.consumer_edges(last))
 }
 
 fn text_of_sink(alloc: Global) -> Result<VertexOutputs, NoMemory>
@@ -146,9 +138,9 @@ fn edge_outputs(
     max_parallelism: u32,
     edges: &[Edge],
 ) -> Result<VertexOutputs, NoMemory>
-    requires linked { AreLinked links.now.nodes.now links.now.widths.now links.now.consumers.now }
-    requires within { All (λ edge. edge.into < length links.now.nodes.now) edges.now }
-    ensures { IfOk result (λ made. made ≡ map (vertex_output links.now.nodes.now max_parallelism) edges.now) }
+    requires { All (λ edge. edge.into < length links.now) edges.now }
+    ensures { IfOk result
+        (λ made. made ≡ map (vertex_output links.now max_parallelism) edges.now) }
 {
     let mut made = Vec::with_capacity(alloc, edges.len())?;
     for edge in edges {
@@ -163,9 +155,9 @@ fn output_along(
     max_parallelism: u32,
     edge: Edge,
 ) -> Result<VertexOutput, NoMemory>
-    requires linked { AreLinked links.now.nodes.now links.now.widths.now links.now.consumers.now }
-    requires within { edge.into < length links.now.nodes.now }
-    ensures { IfOk result (λ output. output ≡ vertex_output links.now.nodes.now max_parallelism edge) }
+    requires { edge.into < length links.now }
+    ensures { IfOk result
+        (λ output. output ≡ vertex_output links.now max_parallelism edge) }
 {
     let ship = links.ship(alloc, edge)?;
     let cells = cells_of(&ship, max_parallelism);

@@ -1,5 +1,5 @@
 ghost use Rattle.std.specs.Prelude.{◌≡◌, ◌<◌, ◌||◌, ℕ, nat_eq, false, length, get_or, IfOk};
-ghost use Rattle.vertex_builder.specs.Vertices.{is_among};
+ghost use Rattle.vertex_builder.specs.Links.{Marks};
 
 use crate::NodeSet;
 use row_core::NoMemory;
@@ -7,8 +7,7 @@ use std::alloc::Global;
 
 /// Whether each of this many nodes stands in a set.
 pub fn marks_of(alloc: Global, set: &NodeSet, count: usize) -> Result<Vec<bool>, NoMemory>
-    ensures len { IfOk result (λ marks. length marks.items ≡ count) }
-    ensures marks { IfOk result (λ marks. (k : ℕ) → k < count → get_or marks.items k false ≡ is_among set.now k) }
+    ensures { IfOk result (λ marks. Marks set.now count marks.items) }
 {
     let mut marks = vec![in alloc; false; count]?;
     for node in set.as_slice() {
@@ -19,7 +18,8 @@ pub fn marks_of(alloc: Global, set: &NodeSet, count: usize) -> Result<Vec<bool>,
 
 fn mark(marks: &mut Vec<bool>, place: usize)
     ensures len { length marks.new.items ≡ length marks.old.items }
-    ensures marks { (k : ℕ) → k < length marks.old.items → get_or marks.new.items k false ≡ (nat_eq k place || get_or marks.old.items k false) }
+    ensures marks { (k : ℕ) → k < length marks.old.items
+        → get_or marks.new.items k false ≡ (nat_eq k place || get_or marks.old.items k false) }
 {
     if place < marks.len() {
         marks[place] = true;

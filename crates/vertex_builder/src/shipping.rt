@@ -50,7 +50,7 @@ fn columns_below(alloc: Global, width: u32) -> Result<Columns, NoMemory>
     Ok(Columns::from_vec(columns))
 }
 
-/// The columns of one side of a join's keys.
+// The columns of one side of a join's keys.
 fn side_columns(alloc: Global, keys: &KeyPairs, place: u32) -> Result<Columns, NoMemory>
     ensures { IfOk result (λ columns. columns ≡ side_columns place keys.now) }
 {

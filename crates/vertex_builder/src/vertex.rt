@@ -1,6 +1,7 @@
 use crate::{NodeList, VertexInputs, VertexOutputs};
 
-/// A chain of nodes that run in one task, with what comes in at its head and goes out behind its last node.
+/// A chain of nodes that run in one task, with what comes in at its head and goes out behind its
+/// last node.
 #[derive(Debug, Drop)]
 pub struct Vertex {
     pub nodes: NodeList,

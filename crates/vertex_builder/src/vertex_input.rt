@@ -1,7 +1,7 @@
 use plan_model::Ship;
 
-/// What comes into a vertex at one input of a node: the rows of another node, or a source's files, where
-/// `from` is None.
+/// What comes into a vertex at one input of a node: the rows of another node, or a source's files,
+/// where `from` is None.
 #[derive(Debug, Drop)]
 pub struct VertexInput {
     pub from: Option<u32>,

@@ -1,6 +1,7 @@
 use plan_model::Ship;
 
-/// Where the rows of a vertex go: to one input of a node, or to a sink's text, where `into` is None.
+/// Where the rows of a vertex go: to one input of a node, or to a sink's text, where `into` is
+/// None.
 #[derive(Debug, Drop)]
 pub struct VertexOutput {
     pub into: Option<u32>,

@@ -5,4 +5,4 @@ pub returns-clause-each : goal.returns-clause-each
 returns-clause-each c = each_keyed
 
 pub returns-clause-grouped : goal.returns-clause-grouped
-returns-clause-grouped c = λ key_of told respects. grouped_keyed key_of told respects
+returns-clause-grouped c = λ key_of row_for respects. grouped_keyed key_of row_for respects

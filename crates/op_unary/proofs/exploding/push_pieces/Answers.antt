@@ -15,6 +15,6 @@ returns c =
     (λ x b q k. search (rules, tests)))
     c.loop-piece.yielded _ c.loop-piece.yielded_by _ _ c.in-None.is c.next.ensures.steps in
     c.loop-piece.invariant
-    ∙ ap (λ (rows : List Row). c.args.made.now ++ rows)
+    ∙ ap (λ (rows : List Row). c.args.out.now ++ rows)
     (map_map (λ (piece : Bor (List ℕ)). piece.now) (λ (piece : List ℕ). set c.args.row.now c.args.column (Text piece)) c.loop-piece.yielded
     ∙ ap (map (λ (piece : List ℕ). set c.args.row.now c.args.column (Text piece))) (done.0 ∙ split_is c.args.separator c.args.text.now))

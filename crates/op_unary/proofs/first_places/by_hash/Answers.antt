@@ -7,10 +7,10 @@ use Rattle.std.specs.Prelude.{All, Bool}
 use Rattle.row_core.specs.Bags.{SameBag, one_of_each}
 use Rattle.row_core.specs.Values.{same_row}
 use Rattle.bag_laws.specs.Rows.{OneRow as Row}
-use Rattle.bag_laws.proofs.Alike.{same_on, same_sym}
-use Rattle.bag_laws.proofs.Counts.{SameBag-one_of_each}
-use Rattle.bag_laws.proofs.Permutations.{same_of_permutation}
-use Rattle.op_unary.specs.declared.placed.Placed.{Placed}
+use Rattle.bag_laws.proofs.Laws.{same_on, same_sym}
+use Rattle.bag_laws.proofs.Laws.{SameBag-one_of_each}
+use Rattle.bag_laws.proofs.Laws.{same_of_permutation}
+use Rattle.op_unary.specs.declared.hashed_row.HashedRow.{HashedRow}
 use Rattle.op_unary.specs.Distinct.{row_at}
 use Rattle.op_unary.specs.Hashes.{hash_of}
 use Rattle.op_unary.proofs.Deduped.{ties, dedup_ties}
@@ -18,10 +18,10 @@ use Rattle.op_unary.proofs.Rising.{still_each}
 use Rattle.op_unary.proofs.Runs.{dedup_map}
 use Rattle.op_unary.proofs.first_places.by_hash.Goals as goal
 
-abbrev hash_in : Placed → ℕ
-hash_in placed = placed.hash
+abbrev hash_in : HashedRow → ℕ
+hash_in hashed = hashed.hash
 
-abbrev tie_at : List Row → Placed → Placed → Bool
+abbrev tie_at : List Row → HashedRow → HashedRow → Bool
 tie_at rows = ties hash_in (row_at rows)
 
 pub returns-clause-places : goal.returns-clause-places
@@ -30,11 +30,11 @@ returns-clause-places c =
     let items = c.sort_by.new.self.items in
     let left : c.dedup_by.new.self.items ≡ dedup (tie_at rows) items =
     dedup_same _ (tie_at rows) _ (λ x y b f' x' y' k. search rules) items c.dedup_by.new.self.items c.dedup_by.ensures.filtered in
-    let stay = λ (P : Placed → Type 0) (are : All P c.args.places.items).
-    subst (λ (l : List Placed). All P l) (sym left) (All-dedup (tie_at rows) P items (All-permutation P c.args.places.items items c.sort_by.ensures.permutation are)) in
+    let stay = λ (P : HashedRow → Type 0) (are : All P c.args.places.items).
+    subst (λ (l : List HashedRow). All P l) (sym left) (All-dedup (tie_at rows) P items (All-permutation P c.args.places.items items c.sort_by.ensures.permutation are)) in
     record {
-      within = stay (λ placed. placed.place < length rows) c.requires.within;
-      hashes = stay (λ placed. placed.hash ≡ hash_of (row_at rows placed)) c.requires.hashes;
+      within = stay (λ hashed. hashed.place < length rows) c.requires.within;
+      hashes = stay (λ hashed. hashed.hash ≡ hash_of (row_at rows hashed)) c.requires.hashes;
     }
 
 pub returns-clause-same : goal.returns-clause-same
@@ -43,7 +43,7 @@ returns-clause-same c =
     let row = row_at rows in
     let places = c.args.places.items in
     let items = c.sort_by.new.self.items in
-    let theirs = All-permutation (λ (placed : Placed). placed.hash ≡ hash_of (row placed)) places items c.sort_by.ensures.permutation c.requires.hashes in
+    let theirs = All-permutation (λ (hashed : HashedRow). hashed.hash ≡ hash_of (row hashed)) places items c.sort_by.ensures.permutation c.requires.hashes in
     let left : c.dedup_by.new.self.items ≡ dedup (tie_at rows) items =
     dedup_same _ (tie_at rows) _ (λ x y b f' x' y' k. search rules) items c.dedup_by.new.self.items c.dedup_by.ensures.filtered in
     let kept : map row c.dedup_by.new.self.items ≡ dedup same_row (map row items) = ap (map row) (left ∙ dedup_ties hash_in row items theirs) ∙ dedup_map row items in

@@ -1,10 +1,10 @@
 use Rattle.std.proofs.Common.{List, length, map, subst, take_all, arith}
 use Rattle.row_core.specs.Bags.{SameBag, one_of_each}
 use Rattle.bag_laws.specs.Rows.{OneRow as Row}
-use Rattle.bag_laws.proofs.Alike.{same_on}
-use Rattle.bag_laws.proofs.Counts.{SameBag-one_of_each}
+use Rattle.bag_laws.proofs.Laws.{same_on}
+use Rattle.bag_laws.proofs.Laws.{SameBag-one_of_each}
 use Rattle.op_unary.specs.Distinct.{row_at, Rises}
-use Rattle.op_unary.specs.declared.placed.Placed.{Placed}
+use Rattle.op_unary.specs.declared.hashed_row.HashedRow.{HashedRow}
 use Rattle.op_unary.proofs.Rising.{rising_differ}
 use Rattle.op_unary.proofs.first_places.first_places.Goals.{In_ok-firsts}
 use Rattle.op_unary.proofs.first_places.first_places.Goals as goal
@@ -21,7 +21,7 @@ left_each c =
 pub returns-then-rises-clause-each : goal.returns-then-rises-clause-each
 returns-then-rises-clause-each c =
     let firsts = c.in_ok-firsts.firsts.items in
-    let up = subst (λ (l : List Placed). Rises l) c.as_slice.ensures.value (c.rises.ensures c.if-rises.true) in
+    let up = subst (λ (l : List HashedRow). Rises l) c.as_slice.ensures.value (c.rises.ensures c.if-rises.true) in
     same_on (rising_differ c.args.rows.now firsts c.in_ok-firsts.ensures.places up) (left_each (goal.at.returns-then-rises-clause-each c).In_ok-firsts)
 
 pub returns-clause-each : goal.returns-clause-each

@@ -2,13 +2,13 @@ use Rattle.std.proofs.Common.{◌≡◌, ℕ, ◌+◌, ◌<◌, Bool, true, fals
 use Rattle.std.proofs.lemmas.Bool.{ltb-true}
 use Rattle.std.proofs.lemmas.Fn.{always_returns_same}
 use Rattle.std.specs.List.{AllAdjacentBelow, IsAllAdjacentAnswer}
-use Rattle.op_unary.specs.declared.placed.Placed.{Placed}
+use Rattle.op_unary.specs.declared.hashed_row.HashedRow.{HashedRow}
 use Rattle.op_unary.proofs.first_places.rises.Goals as goal
 
-abbrev less : Placed → Placed → Bool
+abbrev less : HashedRow → HashedRow → Bool
 less a b = nat_lt a.hash b.hash
 
-when_true : (b : Bool) (places : List Placed) → IsAllAdjacentAnswer (λ x y r. r ≡ less x y) places b → b ≡ true → AllAdjacentBelow (λ x y. true ≡ less x y) places (length places)
+when_true : (b : Bool) (places : List HashedRow) → IsAllAdjacentAnswer (λ x y r. r ≡ less x y) places b → b ≡ true → AllAdjacentBelow (λ x y. true ≡ less x y) places (length places)
 when_true true places answer is = answer
 when_true false places answer is = cc
 

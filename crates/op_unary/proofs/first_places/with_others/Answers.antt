@@ -2,7 +2,7 @@ use Rattle.std.proofs.Common.{◌≡◌, ◌+◌, ◌++◌, ◌∷◌, [], List,
 use Rattle.std.proofs.lemmas.List.{get_or_default}
 use Rattle.op_unary.specs.Distinct.{row_at, IsOrder}
 use Rattle.op_unary.specs.Hashes.{hash_of}
-use Rattle.op_unary.specs.declared.placed.Placed.{Placed}
+use Rattle.op_unary.specs.declared.hashed_row.HashedRow.{HashedRow}
 use Rattle.op_unary.proofs.Places.{no_longer, one_more}
 use Rattle.op_unary.proofs.first_places.with_others.Goals as goal
 
@@ -11,12 +11,12 @@ loop-place-preserved c =
     let rows = c.args.rows.now in
     let before = c.loop-place.invariant in
     let all = c.loop-place.all.items in
-    let placed : Placed = record { hash = c.hash_row-hash.result; place = c.loop-place.place } in
-    let more : c.push.new.self.items ≡ all ++ placed ∷ [] = c.in_ok-push.ensures.items in
-    let hash : placed.hash ≡ hash_of (row_at rows placed) =
+    let hashed : HashedRow = record { hash = c.hash_row-hash.result; place = c.loop-place.place } in
+    let more : c.push.new.self.items ≡ all ++ hashed ∷ [] = c.in_ok-push.ensures.items in
+    let hash : hashed.hash ≡ hash_of (row_at rows hashed) =
     c.hash_row-hash.ensures ∙ ap hash_of (c.index-rows-place.is ∙ get_or_default rows c.loop-place.place c.index-rows-place.result [] c.loop-place-test.true) in (
-      subst (λ (l : List Placed). IsOrder rows l) (sym more) (one_more rows all placed before.0 (sym before.1) c.loop-place-test.true hash),
-      ap (λ (l : List Placed). length l) more ∙ length-append all (placed ∷ []) ∙ ap (λ n. n + 1) before.1,
+      subst (λ (l : List HashedRow). IsOrder rows l) (sym more) (one_more rows all hashed before.0 (sym before.1) c.loop-place-test.true hash),
+      ap (λ (l : List HashedRow). length l) more ∙ length-append all (hashed ∷ []) ∙ ap (λ n. n + 1) before.1,
     )
 
 pub returns-clause-all : goal.returns-clause-all

@@ -14,5 +14,5 @@ returns c =
     record {
       some = omega (arith, c.requires.some, length-map run now);
       one_key = All-map (λ row. key row ≡ c.in_ok-key.key) now run (subst (λ (mine : Row). All (λ keyed. key keyed.row.now ≡ mine) run) (sym c.in_ok-key.ensures) c.requires.one_key);
-      partials = c.in_ok-partials.ensures;
+      accumulators = c.in_ok-accumulators.ensures;
     }

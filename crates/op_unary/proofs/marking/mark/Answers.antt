@@ -6,8 +6,8 @@ use Rattle.std.specs.Prelude.{All, Bool}
 use Rattle.std.specs.List.{items_where_true}
 use Rattle.row_core.specs.Bags.{SameBag}
 use Rattle.bag_laws.specs.Rows.{OneRow as Row}
-use Rattle.bag_laws.proofs.Alike.{same_on, same_refl}
-use Rattle.op_unary.specs.declared.placed.Placed.{Placed}
+use Rattle.bag_laws.proofs.Laws.{same_on, same_refl}
+use Rattle.op_unary.specs.declared.hashed_row.HashedRow.{HashedRow}
 use Rattle.op_unary.specs.Distinct.{row_at}
 use Rattle.op_unary.proofs.Marks.{mark_more, none_marked, set_more}
 use Rattle.op_unary.proofs.marking.mark.Goals as goal
@@ -37,19 +37,19 @@ loop-first-preserved c =
     let here : first.place < length marks = omega (arith, within, c.loop-first.invariant.long) in
     record {
       long = length-set marks first.place true ∙ c.loop-first.invariant.long;
-      set = set_more (λ (placed : Placed). placed.place) marks firsts i record { hash = 0; place = 0 } lt here c.loop-first.invariant.set;
+      set = set_more (λ (hashed : HashedRow). hashed.place) marks firsts i record { hash = 0; place = 0 } lt here c.loop-first.invariant.set;
       marked = mark_more (row_at rows) rows firsts c.requires.firsts marks i first.place first lt (search rules) c.loop-first.invariant.long
           within refl c.loop-first.invariant.marked;
     }
 
 pub returns-clause-set : goal.returns-clause-set
 returns-clause-set c =
-    subst (λ (l : List Placed). All (λ first. get_or c.loop-first.marks.items first.place false ≡ true) l) (take_all c.loop-first.first-index c.args.firsts.now c.loop-first-test.false) c.loop-first.invariant.set
+    subst (λ (l : List HashedRow). All (λ first. get_or c.loop-first.marks.items first.place false ≡ true) l) (take_all c.loop-first.first-index c.args.firsts.now c.loop-first-test.false) c.loop-first.invariant.set
 
 pub returns-clause-marked : goal.returns-clause-marked
 returns-clause-marked c =
     let rows = c.args.rows.now in
     let firsts = c.args.firsts.now in
     let all : SameBag (items_where_true c.loop-first.marks.items rows) (map (row_at rows) firsts) =
-    subst (λ (l : List Placed). SameBag (items_where_true c.loop-first.marks.items rows) (map (row_at rows) l)) (take_all c.loop-first.first-index firsts c.loop-first-test.false) c.loop-first.invariant.marked in
+    subst (λ (l : List HashedRow). SameBag (items_where_true c.loop-first.marks.items rows) (map (row_at rows) l)) (take_all c.loop-first.first-index firsts c.loop-first-test.false) c.loop-first.invariant.marked in
     same_on all c.requires.firsts

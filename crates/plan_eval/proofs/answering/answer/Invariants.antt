@@ -1,16 +1,13 @@
-use Rattle.std.proofs.Common.{◌≡◌, None, length, take}
-use Rattle.plan_model.specs.Checks.{node_kinds}
+use Rattle.std.proofs.Common.{◌≡◌, take}
 use Rattle.plan_model.specs.Plans.{committed_text}
-use Rattle.plan_model.proofs.Told.{from}
-use Rattle.plan_eval.specs.Evaluated.{bags_found}
 use Rattle.plan_eval.specs.Tables.{files_of}
+use Rattle.plan_eval.specs.Takers.{AreLast}
 use Rattle.plan_eval.proofs.Steps.{IsEvaluated}
 use Rattle.plan_eval.proofs.answering.answer.Given as goal
 
 abbrev pub invariant-loop-node : goal.invariant-loop-node
 invariant-loop-node l = record {
-  told : from node_kinds l.nodes l.node-index ≡ None;
-  evaluated : IsEvaluated (files_of l.tables) l.last.items (take l.node-index l.nodes) (bags_found l.found.done.items l.found.chains.items);
-  places : length l.found.chains.items ≡ length l.found.done.items;
-  written : l.text ≡ committed_text (files_of l.tables) (take l.node-index l.nodes);
+  last : AreLast l.nodes l.evaluation.last.items;
+  evaluated : IsEvaluated (files_of l.tables) l.evaluation.last.items (take l.node-index l.nodes) l.evaluation.outputs.items;
+  written : l.evaluation.text ≡ committed_text (files_of l.tables) (take l.node-index l.nodes);
 }

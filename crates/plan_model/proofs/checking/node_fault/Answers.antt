@@ -3,7 +3,7 @@ use Rattle.std.proofs.lemmas.List.Elements.{All-append}
 use Rattle.plan_model.specs.Widths.{width_of, input_widths}
 use Rattle.plan_model.specs.Checks.{node_kinds}
 use Rattle.plan_model.proofs.Told.{told-here, told-next}
-use Rattle.plan_model.proofs.WidthLists.{widths_of-next}
+use Rattle.plan_model.proofs.NodeWidths.{widths_of-next}
 use Rattle.plan_model.proofs.checking.node_fault.Goals as goal
 
 one : (width : ℕ) → width ≤ 256 → All (λ w. w ≤ 256) (width ∷ [])

@@ -11,4 +11,4 @@ returns-clause-vertices c =
     let more = c.into_vec.result.items in
     let made : All P more = subst (All P) (sym c.into_vec.ensures) c.in_ok-more.ensures.vertices in
     let both : c.append.new.self.items ≡ old ++ more = c.in_ok-append.ensures.items in
-    subst (All P) (sym both) (All-append P old more c.requires.made made)
+    subst (All P) (sym both) (All-append P old more c.requires made)

@@ -2,4 +2,4 @@ use Rattle.rect_cover.proofs.Vertices.{vertex_law}
 use Rattle.rect_cover.proofs.laws.vertex_law.Goals as goal
 
 pub returns : goal.returns
-returns c = λ head links inputs wide subtasks cover placed bags. vertex_law head links inputs wide subtasks cover placed bags
+returns c = vertex_law

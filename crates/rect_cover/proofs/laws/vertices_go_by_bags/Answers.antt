@@ -4,11 +4,9 @@ use Rattle.rect_cover.proofs.Chains.{chained-same}
 use Rattle.rect_cover.proofs.Vertices.{head_rows-same, linked-same}
 use Rattle.rect_cover.proofs.laws.vertices_go_by_bags.Goals as goal
 
-pub returns-clause-heads : goal.returns-clause-heads
-returns-clause-heads c = λ head inputs others bags same. head_rows-same head inputs others bags same
-
-pub returns-clause-chains : goal.returns-clause-chains
-returns-clause-chains c = λ links wide others rows more bags same same_rows. chained-same (linked links wide) (linked links others) (linked-same links wide others bags same) same_rows
-
-pub returns-clause-cells : goal.returns-clause-cells
-returns-clause-cells c = λ grid rows others rects same. reading-same grid rows others rects same
+pub returns : goal.returns
+returns c = record {
+  heads = head_rows-same;
+  chains = λ links wide others rows more bags same same_rows. chained-same (linked links wide) (linked links others) (linked-same links wide others bags same) same_rows;
+  cells = reading-same;
+}

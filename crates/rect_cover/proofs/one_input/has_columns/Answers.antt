@@ -1,13 +1,13 @@
 use Rattle.std.proofs.Common.{◌≡◌, ◌≤◌, IsTrue, sym, ◌∙◌, below_more, arith}
 use Rattle.rect_cover.specs.Cells.{times, touches}
-use Rattle.rect_cover.proofs.Steps.{answers_no, clash}
+use Rattle.rect_cover.proofs.Steps.{answers_no, answers_yes, clash}
 use Rattle.rect_cover.proofs.one_input.has_columns.Goals as goal
 use Rattle.rect_cover.proofs.one_input.has_columns.Goals.{else-touches-via-then-touches+else-not-has_column, else-touches-via-else-touches}
 
 pub returns-then-not-has_column : goal.returns-then-not-has_column
 returns-then-not-has_column c =
     answers_no (λ has. clash c.has_column.result
-    (c.has_column.ensures.1 (λ p lt. let one = has p c.loop-cell.cell lt c.loop-cell-test.true (sym c.touches.ensures ∙ c.if-touches.true) in (omega arith, omega arith)))
+    (c.has_column.ensures.1 (λ p lt. let one = has.each p c.loop-cell.cell lt c.loop-cell-test.true (sym c.touches.ensures ∙ c.if-touches.true) in (omega arith, omega arith)))
     c.if-not-has_column.true)
 
 pub loop-cell-preserved : goal.loop-cell-preserved
@@ -22,3 +22,6 @@ loop-cell-preserved c = λ p s lt less.
       | else-touches-via-else-touches w ↦ λ is. absurd (clash (touches c.args.rects.now c.loop-cell.cell) is (sym c.touches.ensures ∙ w.if-touches.false))
     ])
     s less
+
+pub returns : goal.returns
+returns c = answers_yes (record { each = λ p s lt less is. c.loop-cell.invariant p s lt (omega arith) is })

@@ -10,7 +10,7 @@ returns-then-not-has_column c =
     let found : Found c.args.left.now c.args.lefts.now c.loop-cell.cell = touched c.args.left.now c.args.lefts.now c.loop-cell.cell c.requires (sym c.touches.ensures ∙ c.if-touches.true) in
     answers_no (λ partners. clash c.has_column.result
     (c.has_column.ensures.1 (λ q under.
-    let one = partners found.producer q c.loop-cell.cell found.below (omega arith) under (omega arith) found.some in (omega arith, omega arith)))
+    let one = partners.each found.producer q c.loop-cell.cell found.below (omega arith) under (omega arith) found.some in (omega arith, omega arith)))
     c.if-not-has_column.true)
 
 pub loop-cell-preserved : goal.loop-cell-preserved
@@ -28,4 +28,4 @@ loop-cell-preserved c = λ p q s lt less under some.
     s less some
 
 pub returns : goal.returns
-returns c = answers_yes (λ p q s lt less under within some. c.loop-cell.invariant p q s lt (omega arith) under some)
+returns c = answers_yes (record { each = λ p q s lt less under within some. c.loop-cell.invariant p q s lt (omega arith) under some })

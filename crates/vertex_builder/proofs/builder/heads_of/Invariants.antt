@@ -3,8 +3,8 @@ use Rattle.std.specs.List.{range_with_len}
 use Rattle.vertex_builder.specs.Vertices.{is_makeable}
 use Rattle.vertex_builder.proofs.builder.heads_of.Given as goal
 
-abbrev pub invariant-loop-place : goal.invariant-loop-place
-invariant-loop-place l = record {
-  heads : l.heads.items ≡ filter (is_makeable l.fn.links.nodes.now l.fn.made l.fn.complete) (range_with_len 0 l.place);
-  inside : All (λ head. head < length l.fn.links.nodes.now) l.heads.items;
+abbrev pub invariant-loop-node : goal.invariant-loop-node
+invariant-loop-node l = record {
+  heads : l.heads.items ≡ filter (is_makeable l.fn.links l.fn.made l.fn.complete) (range_with_len 0 l.node);
+  inside : All (λ head. head < length l.fn.links) l.heads.items;
 }

@@ -2,14 +2,17 @@ use Rattle.std.proofs.Common.{◌+◌, length, List, [], ◌++◌, replicate, ta
 use Rattle.vertex_builder.specs.declared.edge.Edge.{Edge}
 use Rattle.vertex_builder.specs.Edges.{edges_into, edges_of}
 use Rattle.vertex_builder.proofs.EdgeLists.{edges_of-next, have_both}
-use Rattle.vertex_builder.proofs.GoodNodes.{good_node}
+use Rattle.plan_model.proofs.Laws.{few_inputs, node_read}
 use Rattle.vertex_builder.proofs.consumers.consumers.Goals as goal
 
 pub add_inputs-requires : goal.add_inputs-requires
 add_inputs-requires c =
-    let good = good_node c.args.nodes.now c.loop-place.place c.index-nodes-place.result c.requires.faultless c.loop-place-test.true c.index-nodes-place.is in
+    let nodes = c.args.nodes.now in
+    let k = c.loop-place.place in
+    let node = c.index-nodes-place.result in
+    let few = few_inputs nodes k node c.requires.faultless (node_read nodes k node c.loop-place-test.true c.index-nodes-place.is) in
     let same = ap length c.as_slice.ensures in
-    omega (arith, good.few)
+    omega (arith, few)
 
 pub loop-place-preserved : goal.loop-place-preserved
 loop-place-preserved c =

@@ -7,7 +7,7 @@ use Rattle.vertex_builder.proofs.making.edge_inputs.Goals as goal
 
 pub loop-place-preserved : goal.loop-place-preserved
 loop-place-preserved c =
-    let nodes = c.args.links.now.nodes.now in
+    let nodes = c.args.links.now in
     let inputs = c.args.inputs.now in
     let k = c.loop-place.place in
     c.in_ok-push.ensures.items

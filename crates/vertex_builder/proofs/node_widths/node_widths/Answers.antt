@@ -1,8 +1,7 @@
 use Rattle.std.proofs.Common.{◌≡◌, ℕ, ◌≤◌, List, [], ◌∷◌, ◌++◌, All, take, sym, ◌∙◌, ap, subst, arith}
 use Rattle.std.proofs.lemmas.List.Elements.{All-push}
 use Rattle.plan_model.specs.Widths.{width_of, widths_of, input_widths}
-use Rattle.plan_model.proofs.WidthLists.{widths_of-next}
-use Rattle.vertex_builder.proofs.GoodNodes.{good_node}
+use Rattle.plan_model.proofs.Laws.{good_node, node_read, widths_of-next}
 use Rattle.vertex_builder.proofs.node_widths.node_widths.Goals as goal
 
 narrow_at : (width other : ℕ) → width ≡ other → other ≤ 256 → width ≤ 256
@@ -17,7 +16,7 @@ overflow_cast-width c =
     let nodes = c.args.nodes.now in
     let k = c.loop-node.node-index in
     let node = c.node-item.result in
-    let good = good_node nodes k node c.requires c.loop-node-test.true c.node-item.is in
+    let good = good_node nodes k node c.requires (node_read nodes k node c.loop-node-test.true c.node-item.is) in
     let le = narrow_at c.width-width.result (width_of node.op (input_widths (widths_of (take k nodes)) node.inputs)) (width_is c) good.narrow in
     omega (arith, le)
 
@@ -29,7 +28,7 @@ loop-node-preserved c =
     let before = widths_of (take k nodes) in
     let inputs = c.as_slice-in-loop-node.ensures.value ∙ c.in_ok-inputs.ensures.widths ∙ ap (λ (widths : List ℕ). input_widths widths node.inputs) (c.as_slice.ensures.value ∙ c.loop-node.invariant.widths) in
     let width = c.width-width.ensures ∙ ap (width_of node.op) inputs in
-    let good = good_node nodes k node c.requires c.loop-node-test.true c.node-item.is in
+    let good = good_node nodes k node c.requires (node_read nodes k node c.loop-node-test.true c.node-item.is) in
     let pushed = c.in_ok-push.ensures.items in
     record {
       widths = pushed ∙ ap (λ (n : ℕ). c.loop-node.widths.items ++ n ∷ []) width

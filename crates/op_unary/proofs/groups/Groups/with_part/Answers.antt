@@ -1,13 +1,13 @@
-use Rattle.std.proofs.Common.{◌≡◌, ◌≤◌, ◌++◌, ℕ, List, length, map, sym, subst, arith}
+use Rattle.std.proofs.Common.{◌≡◌, ◌≤◌, ◌++◌, ◌+◌, ◌*◌, ℕ, List, length, map, sym, subst, arith}
 use Rattle.std.proofs.lemmas.List.{map-append}
 use Rattle.row_core.specs.Bags.{SameBag, one_of_each}
 use Rattle.bag_laws.specs.Rows.{OneRow as Row}
-use Rattle.bag_laws.proofs.Alike.{same_refl, same_sym}
-use Rattle.bag_laws.proofs.Counts.{SameBag-append}
-use Rattle.bag_laws.proofs.Permutations.{same_of_permutation}
+use Rattle.bag_laws.proofs.Laws.{same_refl, same_sym}
+use Rattle.bag_laws.proofs.Laws.{SameBag-append}
+use Rattle.bag_laws.proofs.Laws.{same_of_permutation}
 use Rattle.plan_model.specs.Operators.{key_of}
 use Rattle.plan_model.specs.declared.agg.Agg.{Agg}
-use Rattle.op_unary.specs.Groups.{AreTold, key_count}
+use Rattle.op_unary.specs.Groups.{AreTold, GroupTable, StandsFor, key_count}
 use Rattle.op_unary.specs.declared.group.Group.{Group}
 use Rattle.op_unary.specs.declared.keyed.Keyed.{Keyed}
 use Rattle.op_unary.proofs.Parts.{no_fewer}
@@ -28,14 +28,15 @@ told_more by keys tell aggs is also old new before rows sorted same more t =
     (more before (subst (λ (k : List ℕ). AreTold k tell old before) (sym is) (subst (λ (a : List Agg). AreTold keys a old before) (sym also) t)))))
     (SameBag-append before sorted before rows (same_refl before) same)
 
-part_told : (c : In_ok-groups) (keys : List ℕ) (aggs : List Agg) (before : List Row) → c.args.self.keys.now ≡ keys → c.args.self.aggs.now ≡ aggs
-    → AreTold keys aggs c.args.self.groups.items before → AreTold keys aggs c.in_ok-groups.groups.items (before ++ c.args.rows.now)
+part_told : (c : In_ok-groups) (keys : List ℕ) (aggs : List Agg) (before : List Row) → c.self.inside.keys.now ≡ keys → c.self.inside.aggs.now ≡ aggs
+    → AreTold keys aggs c.self.inside.groups.items before → AreTold keys aggs c.in_ok-groups.groups.items (before ++ c.args.rows.now)
 part_told c keys aggs before is also t =
+    let own = c.self.inside in
     let sorted = map row c.in_ok-sorted.sorted.items in
-    told_more c.args.self.keys.now keys c.args.self.aggs.now aggs is also c.args.self.groups.items c.in_ok-groups.groups.items before c.args.rows.now sorted
+    told_more own.keys.now keys own.aggs.now aggs is also own.groups.items c.in_ok-groups.groups.items before c.args.rows.now sorted
     (same_sym (same_of_permutation c.args.rows.now sorted c.in_ok-sorted.ensures.rows))
-    (subst (λ (l : List Keyed). (before : List Row) → AreTold c.args.self.keys.now c.args.self.aggs.now c.args.self.groups.items before
-    → AreTold c.args.self.keys.now c.args.self.aggs.now c.in_ok-groups.groups.items (before ++ map row l)) c.as_slice.ensures.value c.in_ok-groups.ensures)
+    (subst (λ (l : List Keyed). (before : List Row) → AreTold own.keys.now own.aggs.now own.groups.items before
+    → AreTold own.keys.now own.aggs.now c.in_ok-groups.groups.items (before ++ map row l)) c.as_slice.ensures.value c.in_ok-groups.ensures)
     t
 
 -- more rows have no fewer keys
@@ -46,28 +47,34 @@ more_keys keys before rows =
 
 pub returns-then-len-saturating_mul : goal.returns-then-len-saturating_mul
 returns-then-len-saturating_mul c = λ keys aggs before stands.
+    let own = subst (λ (table : GroupTable). StandsFor keys aggs table before) (sym c.self.view_is) stands in
+    let rows = before ++ c.args.rows.now in
+    let groups = c.in_ok-groups.groups.items in
     let more = more_keys keys before c.args.rows.now in
-    let settled = stands.settled in
+    let settled = own.settled in
     let limit = c.saturating_mul.ensures in
     let size = c.len.ensures in
     let less = c.if-len-saturating_mul.true in
-    record {
-      by = stands.by;
-      tell = stands.tell;
-      told = part_told (goal.at.returns-then-len-saturating_mul c).In_ok-groups keys aggs before stands.by stands.tell stands.told;
+    let few : length groups ≤ 2 * key_count keys rows + 2048 = omega (arith, settled, more, limit, size, less) in
+    (record {
+      by = own.by;
+      tell = own.tell;
+      told = part_told (goal.at.returns-then-len-saturating_mul c).In_ok-groups keys aggs before own.by own.tell own.told;
       settled = omega (arith, settled, more);
-      few = omega (arith, settled, more, limit, size, less);
-    }
+    }, subst (λ (by : List ℕ). length groups ≤ 2 * key_count by rows + 2048) (sym own.by) few)
 
 pub returns : goal.returns
 returns c = λ keys aggs before stands.
-    let told = c.in_ok-groups-2.ensures.told keys aggs (before ++ c.args.rows.now) (part_told (goal.at.returns c).In_ok-groups keys aggs before stands.by stands.tell stands.told) in
-    let many = as_many keys aggs c.in_ok-groups-2.groups.items (before ++ c.args.rows.now) told c.in_ok-groups-2.ensures.differ in
+    let own = subst (λ (table : GroupTable). StandsFor keys aggs table before) (sym c.self.view_is) stands in
+    let rows = before ++ c.args.rows.now in
+    let groups = c.in_ok-groups-2.groups.items in
+    let told = c.in_ok-groups-2.ensures.told keys aggs rows (part_told (goal.at.returns c).In_ok-groups keys aggs before own.by own.tell own.told) in
+    let many = as_many keys aggs groups rows told c.in_ok-groups-2.ensures.differ in
     let size = c.len-settled.ensures in
-    record {
-      by = stands.by;
-      tell = stands.tell;
+    let few : length groups ≤ 2 * key_count keys rows + 2048 = omega (arith, many) in
+    (record {
+      by = own.by;
+      tell = own.tell;
       told = told;
       settled = omega (arith, many, size);
-      few = omega (arith, many);
-    }
+    }, subst (λ (by : List ℕ). length groups ≤ 2 * key_count by rows + 2048) (sym own.by) few)

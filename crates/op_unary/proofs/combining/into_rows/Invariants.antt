@@ -1,8 +1,0 @@
-use Rattle.std.proofs.Common.{◌≡◌, ◌++◌, map}
-use Rattle.std.specs.Vec.Iter.{into_iter_items}
-use Rattle.op_unary.specs.Partials.{told}
-use Rattle.op_unary.proofs.combining.into_rows.Given as goal
-
-abbrev pub invariant-loop-group : goal.invariant-loop-group
-invariant-loop-group l =
-    l.rows ++ map (λ group. group.key ++ map told group.partials.items) (into_iter_items l.group-iterator) ≡ map (λ group. group.key ++ map told group.partials.items) l.fn.groups.items

@@ -1,6 +1,0 @@
-use Rattle.std.proofs.Common.{◌≡◌, map, take}
-use Rattle.op_unary.specs.Partials.{partial_of}
-use Rattle.op_unary.proofs.grouping.partials_of.Given as goal
-
-abbrev pub invariant-loop-agg : goal.invariant-loop-agg
-invariant-loop-agg l = l.partials.items ≡ map (partial_of (map (λ keyed. keyed.row.now) l.run)) (take l.agg-index l.aggs)

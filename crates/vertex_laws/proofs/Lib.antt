@@ -1,0 +1,5 @@
+mod ChainRows
+mod HeadRows
+mod Placed
+mod PlanBags
+mod Together

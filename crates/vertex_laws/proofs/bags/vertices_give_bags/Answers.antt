@@ -1,0 +1,12 @@
+use Rattle.bag_laws.proofs.Laws.{same_on}
+use Rattle.rect_cover.specs.Vertices.{wholes}
+use Rattle.vertex_laws.proofs.Together.{gives_bag}
+use Rattle.vertex_laws.proofs.bags.vertices_give_bags.Goals as goal
+
+pub returns : goal.returns
+returns c = record {
+  whole = λ files nodes max_parallelism vertex rows good is within hold. gives_bag nodes max_parallelism vertex good is within files rows hold;
+  sum = λ files nodes max_parallelism vertex hash inputs subtasks good is within shipped cover hold.
+      same_on (c.vertices_are_sums.ensures nodes max_parallelism vertex hash inputs subtasks good is within shipped cover)
+      (gives_bag nodes max_parallelism vertex good is within files (wholes inputs) hold);
+}
