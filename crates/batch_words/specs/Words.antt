@@ -156,7 +156,8 @@ generated (Some n) workers = Ok (Generate n workers)
 -- the order of a run with these items
 abbrev pub run_order : List Item → Result Order WordError
 run_order items =
-    unless_fault (first_fault (faults_after false [] items)) (Ok (Run (unwrap_or (workers_of items) 0)))
+    unless_fault (first_fault (faults_after false [] items))
+    (Ok (Run (unwrap_or (workers_of items) 0)))
 
 -- a generator's number that is not there is found last
 abbrev pub generate_order : List Item → Result Order WordError
