@@ -1,7 +1,7 @@
 -- The generated job is one that a text spells, and its printed text is short.
-use Rattle.std.proofs.Common.{◌≡◌, ℕ, zero, suc, ◌+◌, ◌*◌, ◌<◌, ◌≤◌, ◌^◌, List, [], ◌∷◌, ◌++◌, length, Bool, true, false, ◌&&◌, cond, nat_le, max, true≢false, refl, sym, ap, ◌∙◌, arith, length-append}
-use Rattle.std.specs.Prelude.{codes, pos, IsTrue, All}
-use Rattle.std.proofs.Common.{map, rules}
+use Rattle.std.proofs.Common.{◌≡◌, ℕ, suc, ◌+◌, ◌*◌, ◌<◌, ◌≤◌, ◌^◌, List, [], ◌∷◌, ◌++◌, length, Bool, true, false, ◌&&◌, cond, nat_le, max, true≢false, refl, sym, ap, ◌∙◌, arith, length-append}
+use Rattle.std.specs.Prelude.{codes, pos}
+use Rattle.std.proofs.Common.{map}
 use Rattle.std.specs.List.{list_all, flat_map}
 use Rattle.std.specs.Fmt.{decimal, digits}
 use Rattle.std.specs.Char.{digit_value}
@@ -12,9 +12,8 @@ use Rattle.std.proofs.lemmas.List.Elements.{All-nil, All-cons}
 use Rattle.json.specs.Print.{escape_byte, quoted}
 use Rattle.serde_json.specs.Written.{members_text}
 use Rattle.serde_json.specs.Data.{Data, string, object}
-use Rattle.row_core.specs.declared.cmp.Cmp.{Cmp}
 use Rattle.row_core.specs.declared.cmp.Cmp.TheVariants.{Ge}
-use Rattle.row_core.specs.declared.expr.Expr.{Expr, Col, Const}
+use Rattle.row_core.specs.declared.expr.Expr.{Col, Const}
 use Rattle.row_core.specs.declared.expr.Expr.TheOpen.{Expr-F}
 use Rattle.row_core.specs.declared.expr.Expr.TheFolds.{fold-Expr, fold-roll-Expr}
 use Rattle.row_core.specs.declared.expr.Expr.TheVariants.{rolls-Col, rolls-Const}
@@ -28,7 +27,6 @@ use Rattle.expr_json.specs.Depths.{test_depth, depth_step, test_depth_step}
 use Rattle.expr_json.specs.Ranges.{test_in_range, range_step, test_range_step, test_has_utf8_texts, utf8_step, test_utf8_step}
 use Rattle.expr_json.specs.Spelling.{form as listed, expr_step, test_value, test_step}
 use Rattle.plan_model.specs.Checks.{plan_faults}
-use Rattle.plan_model.specs.Settings.{AreInRange}
 use Rattle.job_json.specs.Members.{is_name, is_name_byte}
 use Rattle.job_json.specs.Spelling.{job_value, members_from, list_value, number_value, node_value, settings_value}
 use Rattle.job_json.specs.Texts.{printed_text, IsWellFormed}

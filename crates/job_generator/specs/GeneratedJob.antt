@@ -1,5 +1,5 @@
 -- The generated job: the total amount of the larger orders of each city.
-use Rattle.std.specs.Prelude.{◌≡◌, ℕ, pos, true, false, List, [], ◌∷◌, ◌++◌, map, codes, Ok}
+use Rattle.std.specs.Prelude.{◌≡◌, ℕ, pos, false, List, [], ◌∷◌, ◌++◌, codes, Ok}
 use Rattle.std.specs.Fmt.{decimal}
 use Rattle.row_core.specs.declared.cmp.Cmp.TheVariants.{Ge}
 use Rattle.row_core.specs.declared.expr.Expr.TheVariants.{Col, Const}
