@@ -1,4 +1,4 @@
-ghost use Rattle.std.specs.Prelude.{◌≡◌, ◌<◌, ◌^◌, length, IfOk, IfErr};
+ghost use Rattle.std.specs.Prelude.{◌≡◌, IfOk, IfErr};
 ghost use Rattle.job_json.specs.Texts.{printed_text};
 ghost use Rattle.batch_main.specs.Jobs.{IsAccepted, IsRefusalOf, job_of};
 
@@ -22,7 +22,6 @@ pub struct AcceptedJob {
 pub fn read_accepted_job(alloc: Global, text: &Bytes) -> Result<AcceptedJob, NotAccepted>
     ensures accepted { IfOk result (λ job. IsAccepted text.now (job_of job)) }
     ensures text { IfOk result (λ job. job.text ≡ printed_text (job_of job)) }
-    ensures few { IfOk result (λ job. length job.plan < 2 ^ 32) }
     ensures refused { IfErr result (IsRefusalOf text.now) }
 {
     let job = read_job(alloc, text)?;
