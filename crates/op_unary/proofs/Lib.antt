@@ -1,7 +1,7 @@
 mod ByHash
 mod Deduped
+mod GroupRows
 mod Marks
-mod Matched
 mod Merges
 mod Neighbours
 mod Parts
@@ -11,4 +11,3 @@ mod Rests
 mod Rising
 mod Runs
 mod Sums
-mod GroupRows
