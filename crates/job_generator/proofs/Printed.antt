@@ -27,6 +27,8 @@ use Rattle.expr_json.specs.Depths.{test_depth, depth_step, test_depth_step}
 use Rattle.expr_json.specs.Ranges.{test_in_range, range_step, test_range_step, test_has_utf8_texts, utf8_step, test_utf8_step}
 use Rattle.expr_json.specs.Spelling.{form as listed, expr_step, test_value, test_step}
 use Rattle.plan_model.specs.Checks.{plan_faults}
+use Rattle.plan_model.specs.Settings.{AreInRange}
+use Rattle.plan_model.specs.declared.setting.Setting.TheVariants.{Attempts, BlockMs, BroadcastBytes, FlushEvery, MaxParallelism, MinParallelism, RestartLimit, SkewBytes, SkewPercent, SlotsPerWorker, SlowLowerMs, SlowPercent, SlowRatio, TargetBytes}
 use Rattle.job_json.specs.Members.{is_name, is_name_byte}
 use Rattle.job_json.specs.Spelling.{job_value, members_from, list_value, number_value, node_value, settings_value}
 use Rattle.job_json.specs.Texts.{printed_text, IsWellFormed}
@@ -94,6 +96,22 @@ faultless = rw fits_three refl
 
 -- ---- the form
 
+settings_fit : AreInRange generated_settings
+settings_fit Attempts = (omega arith, omega arith)
+settings_fit BlockMs = (omega arith, omega arith)
+settings_fit BroadcastBytes = (omega arith, omega arith)
+settings_fit FlushEvery = (omega arith, omega arith)
+settings_fit MaxParallelism = (omega arith, omega arith)
+settings_fit MinParallelism = (omega arith, omega arith)
+settings_fit RestartLimit = (omega arith, omega arith)
+settings_fit SkewBytes = (omega arith, omega arith)
+settings_fit SkewPercent = (omega arith, omega arith)
+settings_fit SlotsPerWorker = (omega arith, omega arith)
+settings_fit SlowLowerMs = (omega arith, omega arith)
+settings_fit SlowPercent = (omega arith, omega arith)
+settings_fit SlowRatio = (omega arith, omega arith)
+settings_fit TargetBytes = (omega arith, omega arith)
+
 pub form : (n : ℕ) → n ≤ 100000 → IsJobForm (generated_job n)
 form n h = record {
   name = named n h;
@@ -105,22 +123,7 @@ form n h = record {
       (All-cons IsNodeForm by_city (totals ∷ []) (record { op = (record { most = omega arith; each = refl }, record { most = omega arith; each = refl }, refl); texts = refl; ship = λ e. absurd (true≢false (sym e)) })
       (All-cons IsNodeForm totals [] (record { op = (refl, refl); texts = refl; ship = λ e. absurd (true≢false (sym e)) })
       (All-nil IsNodeForm))))));
-  settings = record {
-    attempts = omega arith;
-    block_ms = omega arith;
-    broadcast_bytes = omega arith;
-    flush_every = omega arith;
-    max_parallelism = omega arith;
-    min_parallelism = omega arith;
-    restart_limit = omega arith;
-    skew_bytes = omega arith;
-    skew_percent = omega arith;
-    slots_per_worker = omega arith;
-    slow_lower_ms = omega arith;
-    slow_percent = omega arith;
-    slow_ratio = omega arith;
-    target_bytes = omega arith;
-  };
+  settings = settings_fit;
 }
 
 -- ---- the text
