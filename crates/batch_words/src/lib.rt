@@ -12,6 +12,3 @@ pub use order::Order;
 pub use word_error::WordError;
 pub use word_kind::WordKind;
 pub use words::read_words;
-
-#[cfg(test)]
-mod tests;

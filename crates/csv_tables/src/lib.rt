@@ -7,8 +7,6 @@ mod line;
 mod lines;
 mod sink;
 mod table;
-#[cfg(test)]
-mod tests;
 
 pub use lines::SinkLines;
 pub use sink::{sink_text, sink_text_owned};

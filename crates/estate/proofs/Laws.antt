@@ -1,5 +1,5 @@
--- The laws of estates and inputs, which other crates may cite: what leads to what composes, stays and widens, counts rise,
--- and contents are kept.
+-- The laws of estates and inputs, which other crates may cite: names are told apart, what leads to what composes, stays and
+-- widens, counts rise, and contents are kept.
 use Rattle.std.proofs.Common.{ap, Bool, [], ◌∷◌, ◌++◌, ◌≡◌, inl, inr, ⊎_elim, ℕ, ◌≤◌, List, Option, Some, None, IsTrue, Contains, refl, sym, ◌∙◌, subst, arith}
 use Rattle.estate.specs.declared.part_name.PartName.{PartName}
 use Rattle.estate.specs.Holding.{StoredPart, Holding, Counts}
@@ -7,6 +7,8 @@ use Rattle.estate.specs.declared.commit.Commit.{Commit}
 use Rattle.estate.specs.World.{World, IsWorld}
 use Rattle.estate.specs.Contents.{Contents, KeepsContents}
 use Rattle.estate.specs.Changes.{Rose, Same, MayGain, WasHeld, Step, Stays, Counted, Elapses, Leads}
+-- a part's name is its own, and no other's
+pub use Rattle.estate.proofs.Shelving.{name_itself, names_apart}
 
 -- a count that rose in a part of the time rose in all of it
 pub rose_later : (a b c : ℕ) → a ≤ b → Rose b c → Rose a c

@@ -8,6 +8,7 @@ mod commit;
 mod commits;
 mod committed;
 mod edge;
+mod edge_sizes;
 mod edges;
 mod estate;
 mod estate_error;
@@ -39,14 +40,13 @@ mod shelved;
 mod sizes;
 mod table;
 mod tables;
-#[cfg(test)]
-mod tests;
 mod write;
 
 pub use clock::Clock;
 pub use commit::Commit;
 pub use commits::Commits;
 pub use edge::Edge;
+pub use edge_sizes::EdgeSizes;
 pub use edges::Edges;
 pub use estate::Estate;
 pub use estate_error::EstateError;

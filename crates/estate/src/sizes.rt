@@ -4,7 +4,7 @@ use row_core::NoMemory;
 use std::alloc::Global;
 use std::marker::Model;
 
-/// The sizes of a table's files, in bytes, in the order of the files.
+/// Sizes in bytes, in their order: of a table's files, or of an edge's cells.
 #[derive(Debug, Drop)]
 pub struct Sizes {
     items: Vec<u64>,

@@ -7,8 +7,6 @@ mod log;
 mod log_error;
 mod opening;
 mod parse;
-#[cfg(test)]
-mod tests;
 mod write;
 
 pub use blocks::Blocks;

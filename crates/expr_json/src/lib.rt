@@ -25,6 +25,3 @@ pub use spelling_laws::{expr_laws, test_laws};
 pub use test_reading::read_test;
 pub use test_writing::write_test;
 pub use text::write_text;
-
-#[cfg(test)]
-mod tests;

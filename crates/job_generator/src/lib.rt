@@ -5,7 +5,5 @@ mod generating;
 mod job;
 mod nodes;
 mod tables;
-#[cfg(test)]
-mod tests;
 
 pub use generating::generate;

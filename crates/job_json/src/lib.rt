@@ -28,6 +28,3 @@ pub use job_error::JobError;
 pub use job_fault::JobFault;
 pub use job_fault_kind::JobFaultKind;
 pub use reading::{print_job, read_job};
-
-#[cfg(test)]
-mod tests;

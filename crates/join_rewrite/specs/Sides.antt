@@ -28,5 +28,6 @@ side_of_sizes (Some left) (Some right) = Some (side_smaller left right)
 
 -- the smaller of the eligible sides
 abbrev pub side_chosen : JoinKind → Option ℕ → Option ℕ → ℕ → Option Side
-side_chosen kind left right limit =
-    side_of_sizes (eligible (repeats_left kind) limit left) (eligible (repeats_right kind) limit right)
+side_chosen kind left right limit = side_of_sizes
+    (eligible (repeats_left kind) limit left)
+    (eligible (repeats_right kind) limit right)

@@ -5,6 +5,3 @@
 mod choosing;
 
 pub use choosing::{choose_side, repeats};
-
-#[cfg(test)]
-mod tests;

@@ -14,8 +14,6 @@ mod row_parts;
 mod rule;
 mod searching;
 mod sorted_side;
-#[cfg(test)]
-mod tests;
 
 pub use build_side::BuildSide;
 pub use joining::{join, join_owned};

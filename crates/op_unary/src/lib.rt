@@ -25,8 +25,6 @@ mod merging;
 mod merging_groups;
 mod operators;
 mod projecting;
-#[cfg(test)]
-mod tests;
 
 pub use distinct_rows::DistinctRows;
 pub use groups::Groups;

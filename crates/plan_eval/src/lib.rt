@@ -19,8 +19,6 @@ mod stage;
 mod table_files;
 mod table_rows;
 mod takers;
-#[cfg(test)]
-mod tests;
 
 pub use answering::answer;
 pub use files::Files;

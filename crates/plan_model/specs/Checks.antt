@@ -4,6 +4,7 @@ use Rattle.std.specs.List.{flat_map, list_all, list_any}
 use Rattle.std.specs.Option.{option_map_or}
 use Rattle.std.specs.Str.{bytes_eq}
 use Rattle.row_core.specs.Exprs.{columns_within, pred_within}
+use Rattle.row_core.specs.Values.{width_limit}
 pub use Rattle.plan_model.specs.Operators.{is_sink, may_rebalance}
 use Rattle.plan_model.specs.Widths.{width_of, widths_of, input_widths}
 use Rattle.plan_model.specs.declared.agg.Agg.{Agg}
@@ -17,10 +18,14 @@ use Rattle.plan_model.specs.declared.plan_kind.PlanKind.TheVariants.{BadInput, N
 
 -- ---- one node
 
+-- the greatest number of inputs of a union
+abbrev pub union_limit : ℕ
+union_limit = 64
+
 -- how many inputs an operator takes
 abbrev pub takes : Op → ℕ → Bool
 takes (Source table columns) n = nat_eq n 0
-takes Union n = nat_le 2 n && nat_le n 64
+takes Union n = nat_le 2 n && nat_le n union_limit
 takes (Join kind keys) n = nat_eq n 2
 takes _ n = nat_eq n 1
 
@@ -73,7 +78,7 @@ node_kinds before node =
     ++ unless (not node.rebalance || may_rebalance node.op) BadShip
     ++ unless (columns_fit node.op widths) BadColumn
     ++ unless (widths_agree node.op widths) BadWidth
-    ++ unless (nat_le (width_of node.op widths) 256) TooWide
+    ++ unless (nat_le (width_of node.op widths) width_limit) TooWide
 
 -- ---- the whole
 

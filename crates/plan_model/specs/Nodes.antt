@@ -2,6 +2,7 @@
 use Rattle.std.specs.Prelude.{◌≡◌, ◌≤◌, ◌<◌, ℕ, Bool, false, not, ◌||◌, List, length, map, slice_get, All, IsTrue}
 use Rattle.std.specs.Option.{option_map_or}
 use Rattle.row_core.specs.Bags.{SameBag}
+use Rattle.row_core.specs.Values.{width_limit}
 use Rattle.plan_model.specs.Checks.{takes, gives_rows, has_keys, columns_fit, widths_agree}
 use Rattle.plan_model.specs.Operators.{is_sink, may_rebalance}
 use Rattle.plan_model.specs.Plans.{Bag}
@@ -22,7 +23,7 @@ pub record IsGoodNode (before : List Node) (node : Node) : Type 0 where
   pub ship : IsTrue (not node.rebalance || may_rebalance node.op)
   pub columns : IsTrue (columns_fit node.op (widths_into before node))
   pub agree : IsTrue (widths_agree node.op (widths_into before node))
-  pub narrow : width_of node.op (widths_into before node) ≤ 256
+  pub narrow : width_of node.op (widths_into before node) ≤ width_limit
 
 -- each row has the bag's width
 abbrev pub HasItsWidth : Bag → Type 0
@@ -41,8 +42,8 @@ pub record IsGood (op : Op) (inputs : List Bag) : Type 0 where
   pub number : IsTrue (takes op (length inputs))
   pub columns : IsTrue (columns_fit op (bag_widths inputs))
   pub agree : IsTrue (widths_agree op (bag_widths inputs))
-  pub narrow : All (λ width. width ≤ 256) (bag_widths inputs)
-  pub wide : width_of op (bag_widths inputs) ≤ 256
+  pub narrow : All (λ width. width ≤ width_limit) (bag_widths inputs)
+  pub wide : width_of op (bag_widths inputs) ≤ width_limit
   pub fit : All HasItsWidth inputs
 
 -- a sink stands at this place

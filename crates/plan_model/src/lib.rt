@@ -29,8 +29,6 @@ mod ship;
 mod side;
 mod table_names;
 mod tables;
-#[cfg(test)]
-mod tests;
 mod widths;
 
 pub use agg::Agg;

@@ -1,20 +1,24 @@
 ghost use Rattle.std.specs.Prelude.{◌≡◌, ◌≤◌, ◌&&◌, length, slice_get, None, Some, All, IfOk, IfErr};
 ghost use Rattle.std.specs.List.{list_all};
+ghost use Rattle.row_core.specs.Values.{width_limit};
 ghost use Rattle.plan_model.specs.Widths.{width_of, widths_of, input_widths};
 ghost use Rattle.plan_model.specs.Checks.{takes, gives_rows, node_kinds};
 
 use crate::{Node, PlanKind};
 
+/// The greatest number of values of a row.
+const WIDTH_LIMIT: u64 = 256;
+
 /// The width of a node's rows, or the first thing that is wrong with it. `before` are the nodes before it,
 /// `widths` those of its inputs.
 pub fn check_node(before: &[Node], widths: &[u32], node: &Node) -> Result<u32, PlanKind>
     requires widths { widths.now ≡ input_widths (widths_of before.now) node.now.inputs }
-    requires narrow { All (λ width. width ≤ 256) widths.now }
+    requires narrow { All (λ width. width ≤ width_limit) widths.now }
     ensures faultless { IfOk result (λ width. slice_get (node_kinds before.now node.now) 0 ≡ None) }
     ensures first { IfErr result (λ kind. slice_get (node_kinds before.now node.now) 0
         ≡ Some kind) }
     ensures width { IfOk result (λ width. width ≡ width_of node.now.op widths.now) }
-    ensures narrow { IfOk result (λ width. width ≤ 256) }
+    ensures narrow { IfOk result (λ width. width ≤ width_limit) }
 {
     if !inputs_fit(before, node) {
         return Err(PlanKind::BadInput);
@@ -32,7 +36,7 @@ pub fn check_node(before: &[Node], widths: &[u32], node: &Node) -> Result<u32, P
         return Err(PlanKind::BadWidth);
     }
     let width = node.op.width(widths);
-    if width > 256 {
+    if width > WIDTH_LIMIT {
         return Err(PlanKind::TooWide);
     }
     Ok(width as u32)

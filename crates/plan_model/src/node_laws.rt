@@ -1,5 +1,6 @@
 ghost use Rattle.std.specs.Prelude.{◌≡◌, ◌≤◌, ◌<◌, ◌++◌, ◌∷◌, ℕ, List, [], All, IsTrue, Some, get_or, slice_get, length, map, take};
-ghost use Rattle.plan_model.specs.Checks.{plan_faults, node_kinds};
+ghost use Rattle.row_core.specs.Values.{width_limit};
+ghost use Rattle.plan_model.specs.Checks.{plan_faults, node_kinds, union_limit};
 ghost use Rattle.plan_model.specs.Nodes.{HasItsWidth, IsGood, IsGoodNode, bag_widths, widths_into};
 ghost use Rattle.plan_model.specs.Operators.{takes_one};
 ghost use Rattle.plan_model.specs.Plans.{Bag, bag_at, bag_of, bags_of};
@@ -17,7 +18,7 @@ pub fn good_nodes()
     ensures earlier { (nodes : List OneNode) (place : ℕ) (node : OneNode) → plan_faults nodes ≡ []
         → slice_get nodes place ≡ Some node → All (λ input. input < place) node.inputs }
     ensures few { (nodes : List OneNode) (place : ℕ) (node : OneNode) → plan_faults nodes ≡ []
-        → slice_get nodes place ≡ Some node → length node.inputs ≤ 64 }
+        → slice_get nodes place ≡ Some node → length node.inputs ≤ union_limit }
     ensures one { (nodes : List OneNode) (place : ℕ) (node : OneNode) → plan_faults nodes ≡ []
         → slice_get nodes place ≡ Some node → IsTrue (takes_one node.op)
         → length node.inputs ≡ 1 }
@@ -34,7 +35,7 @@ pub fn widths_stand_on_inputs()
         → get_or (widths_of nodes) place 0 ≡ width_of node.op (input_widths
         (widths_of nodes) node.inputs) }
     ensures narrow { (nodes : List OneNode) → plan_faults nodes ≡ []
-        → All (λ width. width ≤ 256) (widths_of nodes) }
+        → All (λ width. width ≤ width_limit) (widths_of nodes) }
 {}
 
 /// Each node has a bag, of the node's width. In a plan without a fault it is what the node's operator

@@ -1,11 +1,15 @@
 ghost use Rattle.std.specs.Prelude.{◌≡◌, ◌≤◌, nat_lt, nat_eq, get_or, All};
 ghost use Rattle.std.specs.List.{list_all};
+ghost use Rattle.row_core.specs.Values.{width_limit};
 ghost use Rattle.plan_model.specs.Widths.{width_of};
 ghost use Rattle.plan_model.specs.Checks.{is_sink, takes, has_keys, may_rebalance, columns_fit, widths_agree};
 
 use crate::widths::width_at;
 use crate::{Aggs, Exprs, JoinKind, KeyPairs, Schema};
 use row_core::{Bytes, Columns, Pred};
+
+/// The greatest number of inputs of a union.
+const UNION_LIMIT: usize = 64;
 
 /// One operator of a plan; docs/SEMANTICS.md says what each gives.
 #[derive(Debug, Drop)]
@@ -34,7 +38,7 @@ impl Op {
     {
         match self {
             Op::Source { .. } => inputs == 0,
-            Op::Union => 2 <= inputs && inputs <= 64,
+            Op::Union => 2 <= inputs && inputs <= UNION_LIMIT,
             Op::Join { .. } => inputs == 2,
             _ => inputs == 1,
         }
@@ -88,7 +92,7 @@ impl Op {
 
     /// How many values the operator's rows have, for inputs of at most 256 values a row.
     pub fn width(&self, widths: &[u32]) -> u64
-        requires { All (λ width. width ≤ 256) widths.now }
+        requires { All (λ width. width ≤ width_limit) widths.now }
         ensures { result ≡ width_of self.now widths.now }
     {
         let first = width_at(widths, 0) as u64;

@@ -10,8 +10,6 @@ mod races;
 mod racing;
 mod rule;
 mod seat;
-#[cfg(test)]
-mod tests;
 mod view;
 mod word;
 

@@ -1,4 +1,4 @@
--- The laws that other crates cite: what an expression and a predicate say, variant by variant.
+-- The laws that other crates cite: what an expression and a predicate say, variant by variant; spellings in bytes; hashes.
 use Rattle.std.proofs.Common.{◌≡◌, ℕ, List, get_or, sym, ◌∙◌, ap}
 use Rattle.row_core.specs.Exprs.{value_at, value_step, truth_of, truth_step, compared}
 use Rattle.row_core.specs.declared.value.Value.{Value}
@@ -13,6 +13,12 @@ use Rattle.row_core.specs.declared.pred.Pred.{Test}
 use Rattle.row_core.specs.declared.pred.Pred.TheOpen.{Pred-F}
 use Rattle.row_core.specs.declared.pred.Pred.TheFolds.{fold-roll-Pred}
 use Rattle.row_core.specs.declared.pred.Pred.TheVariants.{rolls-Test}
+-- ---- spellings: of lists one begins with the other, rows have one, a row whose next value is missing
+pub use Rattle.row_core.proofs.Fronts.{IsLonger, lists_front, rows_free, row_front, rows_same}
+pub use Rattle.row_core.proofs.Reading.{values_lack}
+pub use Rattle.row_core.proofs.TextLimits.{values_texts_fit}
+-- ---- the hash of bytes in parts, and of a key column by column
+pub use Rattle.row_core.proofs.Hashes.{hash_from-nil, hash_key_more, key_text_fits, hash_int, hash_text}
 
 pub value_at-Col : (row : List Value) (column : ℕ) → value_at row (Col column) ≡ get_or row column Null
 value_at-Col row column = ap (value_at row) (sym (rolls-Col column)) ∙ fold-roll-Expr Value (value_step row) (Expr-F.Col column)

@@ -2,7 +2,7 @@
 use Rattle.std.specs.Prelude.{◌≡◌, ℕ, ◌<◌, ◌≤◌, List, [], ◌∷◌, ◌++◌, length, take, drop, FitsSigned}
 use Rattle.std.specs.List.{flat_map, AllByRecursion}
 use Rattle.std.specs.Int.{w16, w32, w64, to_be_bytes, cast_unsigned}
-use Rattle.row_core.specs.Values.{text_limit}
+use Rattle.row_core.specs.Values.{text_limit, width_limit}
 use Rattle.row_core.specs.declared.value.Value.{Value}
 use Rattle.row_core.specs.declared.value.Value.TheVariants.{Null, Int, Text}
 
@@ -36,9 +36,9 @@ ValueFits Null = Unit {0}
 ValueFits (Int n) = FitsSigned w64 n
 ValueFits (Text t) = length t ≤ text_limit
 
--- at most 256 values, each of which fits
+-- values within the limit on their number, each of which fits
 pub record RowFits (row : List Value) : Type 0 where
-  pub width : length row ≤ 256
+  pub width : length row ≤ width_limit
   pub values : AllByRecursion ValueFits row
 
 -- rows, each of which fits

@@ -39,6 +39,10 @@ int_value (negsuc n) = if nat_lt n (2 ^ 63) then Int (negsuc n) else Null
 abbrev pub text_limit : ℕ
 text_limit = 16777216
 
+-- the greatest number of values of a row
+abbrev pub width_limit : ℕ
+width_limit = 256
+
 -- the text, or Null where it is too long
 abbrev pub text_value : List ℕ → Value
 text_value text = if nat_le (length text) text_limit then Text text else Null

@@ -124,7 +124,8 @@ fn read_text(alloc: Global, bytes: &[u8]) -> Result<Option<(Value, &[u8])>, NoMe
     Ok(Some((Value::Text(Bytes::from_slice(alloc, text)?), rest)))
 }
 
-fn read_u16(bytes: &[u8]) -> Option<(u16, &[u8])>
+/// The number of two bytes, big endian, that the bytes begin with, and the bytes after it.
+pub fn read_u16(bytes: &[u8]) -> Option<(u16, &[u8])>
     ensures { MatchOption result (NoneBegins (to_be_bytes w16) (λ n. n < 2 ^ 16) bytes.now)
         (λ x. Begins (to_be_bytes w16) (λ n. n < 2 ^ 16) bytes.now x.0 x.1.now) }
 {
@@ -132,7 +133,8 @@ fn read_u16(bytes: &[u8]) -> Option<(u16, &[u8])>
     Some((u16::from_be_bytes(*number), rest))
 }
 
-fn read_u32(bytes: &[u8]) -> Option<(u32, &[u8])>
+/// The number of four bytes, big endian, that the bytes begin with, and the bytes after it.
+pub fn read_u32(bytes: &[u8]) -> Option<(u32, &[u8])>
     ensures { MatchOption result (NoneBegins (to_be_bytes w32) (λ n. n < 2 ^ 32) bytes.now)
         (λ x. Begins (to_be_bytes w32) (λ n. n < 2 ^ 32) bytes.now x.0 x.1.now) }
 {
@@ -140,7 +142,8 @@ fn read_u32(bytes: &[u8]) -> Option<(u32, &[u8])>
     Some((u32::from_be_bytes(*number), rest))
 }
 
-fn read_u64(bytes: &[u8]) -> Option<(u64, &[u8])>
+/// The number of eight bytes, big endian, that the bytes begin with, and the bytes after it.
+pub fn read_u64(bytes: &[u8]) -> Option<(u64, &[u8])>
     ensures { MatchOption result (NoneBegins (to_be_bytes w64) (λ n. n < 2 ^ 64) bytes.now)
         (λ x. Begins (to_be_bytes w64) (λ n. n < 2 ^ 64) bytes.now x.0 x.1.now) }
 {

@@ -3,13 +3,14 @@ ghost use Rattle.std.specs.List.{AllByRecursion};
 ghost use Rattle.row_core.specs.declared.value.Value.{Value as OneValue};
 ghost use Rattle.row_core.specs.Encoding.{value_bytes, row_bytes, TextFits, ValueFits, RowFits};
 ghost use Rattle.row_core.specs.Hashing.{key_of};
+ghost use Rattle.row_core.specs.Values.{width_limit};
 
 use crate::{Bytes, NoMemory, Row, Value};
 use std::alloc::Global;
 
 /// The row's bytes: its number of values, and the values. docs/FORMATS.md has the format.
 pub fn encode_row(alloc: Global, row: &Row) -> Result<Bytes, NoMemory>
-    requires width { length row.now ≤ 256 }
+    requires width { length row.now ≤ width_limit }
     requires texts { AllByRecursion TextFits row.now }
     ensures spelled { IfOk result (λ bytes. bytes ≡ row_bytes row.now) }
     // So the bytes decode.

@@ -6,7 +6,8 @@ ghost use Rattle.row_core.specs.Hashing.{hash_from, hash_of_key, key_of};
 
 use crate::{Columns, Row, Value};
 
-const HASH_START: u64 = 14_695_981_039_346_656_037;
+/// The state before the first byte of a hash.
+pub const HASH_START: u64 = 14_695_981_039_346_656_037;
 
 const HASH_PRIME: u64 = 1_099_511_628_211;
 
@@ -35,22 +36,22 @@ fn hash_value(state: u64, value: &Value) -> u64
     ensures { result ≡ hash_from state (value_bytes value.now) }
 {
     match value {
-        Value::Null => hash(state, &[0]),
+        Value::Null => hash_more(state, &[0]),
         Value::Int(number) => {
-            let tagged = hash(state, &[1]);
-            hash(tagged, &number.cast_unsigned().to_be_bytes())
+            let tagged = hash_more(state, &[1]);
+            hash_more(tagged, &number.cast_unsigned().to_be_bytes())
         }
         Value::Text(text) => {
-            let tagged = hash(state, &[2]);
-            let measured = hash(tagged, &(text.len() as u32).to_be_bytes());
-            hash(measured, text.as_slice())
+            let tagged = hash_more(state, &[2]);
+            let measured = hash_more(tagged, &(text.len() as u32).to_be_bytes());
+            hash_more(measured, text.as_slice())
         }
     }
 }
 
-// The state after these bytes.
+/// The state of a hash after these bytes.
 #[tactic(auto, unfolding(crate::specs::Hashing::hash_from))]
-fn hash(state: u64, bytes: &[u8]) -> u64
+pub fn hash_more(state: u64, bytes: &[u8]) -> u64
     ensures { result ≡ hash_from state bytes.now }
 {
     let mut after = state;

@@ -18,8 +18,6 @@ mod predicate;
 mod row;
 mod row_error;
 mod rows;
-#[cfg(test)]
-mod tests;
 mod truth;
 mod value;
 
@@ -27,11 +25,11 @@ pub use bytes::Bytes;
 pub use cell_rows::CellRows;
 pub use cmp::Cmp;
 pub use columns::Columns;
-pub use decoding::{decode_rows, one_spelling};
+pub use decoding::{decode_rows, one_spelling, read_u16, read_u32, read_u64};
 pub use encoding::{encode_row, texts_fit};
 pub use evaluation::eval;
 pub use expr::Expr;
-pub use hashing::{key_hash, one_hash};
+pub use hashing::{HASH_START, hash_more, key_hash, one_hash};
 pub use no_memory::NoMemory;
 pub use pred::Pred;
 pub use predicate::holds;

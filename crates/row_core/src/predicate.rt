@@ -1,5 +1,5 @@
 ghost use Rattle.std.specs.Prelude.{◌≡◌, length, IfOk, IsTrue};
-ghost use Rattle.row_core.specs.Exprs.{is_null, truth_of, truth_from, opposite, compared, pred_within, lesser, is_yes};
+ghost use Rattle.row_core.specs.Exprs.{is_null, truth_of, compared, pred_within, is_yes};
 
 use crate::evaluation::evaluate;
 use crate::{Cmp, NoMemory, Pred, Row, Truth, Value};
@@ -26,21 +26,21 @@ fn truth_at(alloc: Global, test: &Pred, row: &Row) -> Result<Truth, NoMemory>
         }
         Pred::IsNull(a) => {
             let a = evaluate(alloc, a, row)?;
-            Ok(truth(matches_null(a.value())))
+            Ok(Truth::of(matches_null(a.value())))
         }
         Pred::And(a, b) => {
             let a = truth_at(alloc, a.get(), row)?;
             let b = truth_at(alloc, b.get(), row)?;
-            Ok(both(a, b))
+            Ok(a.and(b))
         }
         Pred::Or(a, b) => {
             let a = truth_at(alloc, a.get(), row)?;
             let b = truth_at(alloc, b.get(), row)?;
-            Ok(not(both(not(a), not(b))))
+            Ok(a.or(b))
         }
         Pred::Not(a) => {
             let a = truth_at(alloc, a.get(), row)?;
-            Ok(not(a))
+            Ok(a.not())
         }
     }
 }
@@ -57,39 +57,5 @@ fn compare(cmp: Cmp, a: &Value, b: &Value) -> Truth
     if matches_null(a) || matches_null(b) {
         return Truth::Unknown;
     }
-    let order = a.cmp(b);
-    truth(match cmp {
-        Cmp::Eq => order.is_eq(),
-        Cmp::Ne => order.is_ne(),
-        Cmp::Lt => order.is_lt(),
-        Cmp::Le => order.is_le(),
-        Cmp::Gt => order.is_gt(),
-        Cmp::Ge => order.is_ge(),
-    })
-}
-
-fn truth(yes: bool) -> Truth
-    ensures { result ≡ truth_from yes }
-{
-    if yes { Truth::Yes } else { Truth::No }
-}
-
-fn both(a: Truth, b: Truth) -> Truth
-    ensures { result ≡ lesser a b }
-{
-    match (a, b) {
-        (Truth::No, _) | (_, Truth::No) => Truth::No,
-        (Truth::Yes, Truth::Yes) => Truth::Yes,
-        _ => Truth::Unknown,
-    }
-}
-
-fn not(a: Truth) -> Truth
-    ensures { result ≡ opposite a }
-{
-    match a {
-        Truth::No => Truth::Yes,
-        Truth::Unknown => Truth::Unknown,
-        Truth::Yes => Truth::No,
-    }
+    Truth::of(cmp.passes(a.cmp(b)))
 }

@@ -5,8 +5,6 @@
 mod commit;
 mod commit_error;
 mod committed;
-#[cfg(test)]
-mod tests;
 
 pub use commit::commit_once;
 pub use commit_error::CommitError;

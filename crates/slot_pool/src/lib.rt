@@ -10,6 +10,3 @@ mod worker;
 pub use no_memory::NoMemory;
 pub use slot_id::SlotId;
 pub use slots::Slots;
-
-#[cfg(test)]
-mod tests;

@@ -21,7 +21,8 @@ impl Model for Slots {
 
     ghost view = { λ s. s.workers.items };
 
-    ghost invariant = { λ s. (s.free ≡ free_slots s.workers.items) × (slots_of s.workers.items < 2 ^ 32) };
+    ghost invariant = { λ s. (s.free ≡ free_slots s.workers.items)
+        × (slots_of s.workers.items < 2 ^ 32) };
 }
 
 impl Slots {

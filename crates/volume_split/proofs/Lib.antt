@@ -4,3 +4,4 @@ mod Smallest
 mod Places
 mod Choice
 mod Examples
+pub mod Laws

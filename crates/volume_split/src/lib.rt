@@ -9,8 +9,6 @@ mod cutting;
 mod group;
 mod groups;
 mod no_memory;
-#[cfg(test)]
-mod tests;
 
 pub use big_sizes::BigSizes;
 pub use choosing::choose;

@@ -6,8 +6,8 @@ use Rattle.row_core.proofs.hashing.hash_value.Goals as goal
 pub returns-in-Int : goal.returns-in-Int
 returns-in-Int c =
     let fits : FitsSigned w64 c.in-Int.number = search rules in
-    rw c.in-Int.is (hash_int c.args.state c.hash-tagged.result c.hash-in-Int.result c.cast_unsigned.result c.in-Int.number c.to_be_bytes.result fits c.hash-tagged.ensures c.to_be_bytes.ensures c.cast_unsigned.ensures c.hash-in-Int.ensures)
+    rw c.in-Int.is (hash_int c.args.state c.hash_more-tagged.result c.hash_more-in-Int.result c.cast_unsigned.result c.in-Int.number c.to_be_bytes.result fits c.hash_more-tagged.ensures c.to_be_bytes.ensures c.cast_unsigned.ensures c.hash_more-in-Int.ensures)
 
 pub returns-in-Text : goal.returns-in-Text
 returns-in-Text c =
-    rw c.in-Text.is (hash_text c.args.state c.hash-tagged-in-Text.result c.hash-measured.result c.hash-in-Text.result c.len.result c.to_be_bytes-in-Text.result c.in-Text.text c.as_slice.result.now c.hash-tagged-in-Text.ensures c.to_be_bytes-in-Text.ensures c.len.ensures.len c.hash-measured.ensures c.as_slice.ensures c.hash-in-Text.ensures)
+    rw c.in-Text.is (hash_text c.args.state c.hash_more-tagged-in-Text.result c.hash_more-measured.result c.hash_more-in-Text.result c.len.result c.to_be_bytes-in-Text.result c.in-Text.text c.as_slice.result.now c.hash_more-tagged-in-Text.ensures c.to_be_bytes-in-Text.ensures c.len.ensures.len c.hash_more-measured.ensures c.as_slice.ensures c.hash_more-in-Text.ensures)
