@@ -30,14 +30,14 @@ nodes = record { op = Source (codes "orders") (column ∷ column ∷ []); inputs
 two_sinks : sink_count nodes ≡ 2
 two_sinks = refl
 
-filter_is_chained : chain_of nodes 0 ≡ 0 ∷ 1 ∷ []
+filter_is_chained : chain_of nodes [] 0 ≡ 0 ∷ 1 ∷ []
 filter_is_chained = refl
 
-sources_first : heads_made nodes 0 ≡ 0 ∷ 2 ∷ []
+sources_first : heads_made nodes [] 0 ≡ 0 ∷ 2 ∷ []
 sources_first = refl
 
-aggregate_before_the_join : heads_made nodes 1 ≡ 0 ∷ 2 ∷ 5 ∷ []
+aggregate_before_the_join : heads_made nodes [] 1 ≡ 0 ∷ 2 ∷ 5 ∷ []
 aggregate_before_the_join = refl
 
-order : making_order nodes ≡ 0 ∷ 2 ∷ 5 ∷ 3 ∷ []
+order : making_order nodes [] ≡ 0 ∷ 2 ∷ 5 ∷ 3 ∷ []
 order = refl

@@ -7,20 +7,9 @@ use Rattle.std.proofs.lemmas.List.Folds.{list_any-append}
 use Rattle.std.proofs.lemmas.List.FromFn.{get_or-range_with_len, length-range_with_len}
 use Rattle.std.proofs.lemmas.Map.Keys.{IsDistinct-head, IsDistinct-tail, IsDistinct-cons, IsDistinct-from_apart}
 use Rattle.vertex_builder.specs.Chains.{is_among}
+use Rattle.vertex_builder.proofs.Laws.{same_number, other_number, flipped, either_left, either_right, neither_left, neither_right, all_map}
 
 -- ---- tests of numbers
-
-pub same_yes : (n : ℕ) → nat_eq n n ≡ true
-same_yes n = grind (arith, nat_tests)
-
-pub same_number : (m n : ℕ) → nat_eq m n ≡ true → m ≡ n
-same_number m n e = grind (arith, nat_tests)
-
-pub other_number : (m n : ℕ) → m < n → nat_eq m n ≡ false
-other_number m n lt = grind (arith, nat_tests)
-
-flipped : (m n : ℕ) → nat_eq m n ≡ false → nat_eq n m ≡ false
-flipped m n e = grind (arith, nat_tests)
 
 pub below_yes : (m n : ℕ) → m < n → nat_lt m n ≡ true
 below_yes m n lt = grind (arith, nat_tests)
@@ -28,37 +17,7 @@ below_yes m n lt = grind (arith, nat_tests)
 pub below_is : (m n : ℕ) → nat_lt m n ≡ true → m < n
 below_is m n e = grind (arith, nat_tests)
 
--- ---- truth values
-
-pub either_right : (a b : Bool) → b ≡ true → (a || b) ≡ true
-either_right true b e = refl
-either_right false b e = e
-
-pub either_left : (a b : Bool) → a ≡ true → (a || b) ≡ true
-either_left true b e = refl
-either_left false b e = absurd (false≢true e)
-
-pub neither_left : (a b : Bool) → (a || b) ≡ false → a ≡ false
-neither_left true b e = e
-neither_left false b e = refl
-
-pub neither_right : (a b : Bool) → (a || b) ≡ false → b ≡ false
-neither_right true b e = absurd (false≢true (sym e))
-neither_right false b e = e
-
-pub both_left : (a b : Bool) → (a && b) ≡ true → a ≡ true
-both_left true b e = refl
-both_left false b e = e
-
-pub both_right : (a b : Bool) → (a && b) ≡ true → b ≡ true
-both_right true b e = e
-both_right false b e = absurd (false≢true e)
-
 -- ---- each item of a list
-
-pub all_map : {X : Type 0} (P Q : X → Type 0) (xs : List X) → AllByRecursion P xs → ((x : X) → P x → Q x) → AllByRecursion Q xs
-all_map P Q [] h f = tt
-all_map P Q (x ∷ xs) h f = (f x h.0, all_map P Q xs h.1 f)
 
 all_append : {X : Type 0} (P : X → Type 0) (xs ys : List X) → AllByRecursion P xs → AllByRecursion P ys → AllByRecursion P (xs ++ ys)
 all_append P [] ys h i = i

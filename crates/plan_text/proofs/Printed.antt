@@ -32,21 +32,21 @@ lines_more vertices k vertex lt is =
 
 -- ---- the vertices made
 
-vertices_are : (nodes : List Node) (max_parallelism : ℕ) (vertices : List Vertex) → plan_faults nodes ≡ [] → AllByRecursion (IsVertex nodes max_parallelism) vertices → vertices ≡ map (vertex_of nodes max_parallelism) (map head_of vertices)
+vertices_are : (nodes : List Node) (max_parallelism : ℕ) (vertices : List Vertex) → plan_faults nodes ≡ [] → AllByRecursion (IsVertex nodes [] max_parallelism) vertices → vertices ≡ map (vertex_of nodes [] max_parallelism) (map head_of vertices)
 vertices_are nodes max_parallelism [] good all = refl
 vertices_are nodes max_parallelism (vertex ∷ vertices) good all =
-    (λ i. vertex_is nodes max_parallelism vertex good all.0 i ∷ vertices_are nodes max_parallelism vertices good all.1 i)
+    (λ i. vertex_is nodes [] max_parallelism vertex good all.0 i ∷ vertices_are nodes max_parallelism vertices good all.1 i)
 
 -- vertices of the heads in the order made are the vertices made
-pub in_order : (nodes : List Node) (vertices : List Vertex) → plan_faults nodes ≡ [] → All (IsVertex nodes default_values.max_parallelism) vertices → map head_of vertices ≡ making_order nodes → vertices ≡ vertices_made nodes
+pub in_order : (nodes : List Node) (vertices : List Vertex) → plan_faults nodes ≡ [] → All (IsVertex nodes [] default_values.max_parallelism) vertices → map head_of vertices ≡ making_order nodes [] → vertices ≡ vertices_made nodes
 in_order nodes vertices good all heads =
-    vertices_are nodes default_values.max_parallelism vertices good (recursion_from_All (IsVertex nodes default_values.max_parallelism) vertices all)
-    ∙ ap (map (vertex_of nodes default_values.max_parallelism)) heads
+    vertices_are nodes default_values.max_parallelism vertices good (recursion_from_All (IsVertex nodes [] default_values.max_parallelism) vertices all)
+    ∙ ap (map (vertex_of nodes [] default_values.max_parallelism)) heads
 
 -- the chain of one vertex
-pub chain_at : (nodes : List Node) (max_parallelism : ℕ) (vertices : List Vertex) (k : ℕ) (vertex : Vertex) → plan_faults nodes ≡ [] → All (IsVertex nodes max_parallelism) vertices → k < length vertices → vertex ≡ get_or vertices k vertex
-    → vertex.nodes ≡ chain_of nodes (get_or (map head_of vertices) k 0)
+pub chain_at : (nodes : List Node) (max_parallelism : ℕ) (vertices : List Vertex) (k : ℕ) (vertex : Vertex) → plan_faults nodes ≡ [] → All (IsVertex nodes [] max_parallelism) vertices → k < length vertices → vertex ≡ get_or vertices k vertex
+    → vertex.nodes ≡ chain_of nodes [] (get_or (map head_of vertices) k 0)
 chain_at nodes max_parallelism vertices k vertex good all lt is =
-    let item : IsVertex nodes max_parallelism vertex = subst (IsVertex nodes max_parallelism) (sym is) (all k vertex lt) in
+    let item : IsVertex nodes [] max_parallelism vertex = subst (IsVertex nodes [] max_parallelism) (sym is) (all k vertex lt) in
     let head : head_of vertex ≡ get_or (map head_of vertices) k 0 = ap head_of is ∙ sym (get_or-map head_of vertices k vertex 0 lt) in
-    ap (λ (v : Vertex). v.nodes) (vertex_is nodes max_parallelism vertex good item) ∙ ap (chain_of nodes) head
+    ap (λ (v : Vertex). v.nodes) (vertex_is nodes [] max_parallelism vertex good item) ∙ ap (chain_of nodes []) head

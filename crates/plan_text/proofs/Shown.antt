@@ -1,17 +1,18 @@
 -- Each node of a plan is in a vertex that is made.
-use Rattle.std.proofs.Common.{◌≡◌, ℕ, suc, ◌<◌, nat_eq, nat_lt, Bool, true, false, ◌||◌, List, [], ◌∷◌, length, refl, sym, ◌∙◌, ap, subst, arith}
+use Rattle.std.proofs.Common.{◌≡◌, ℕ, ◌<◌, nat_eq, nat_lt, Bool, true, false, ◌||◌, List, [], ◌∷◌, length, refl, sym, ◌∙◌, ap, subst, arith}
 use Rattle.std.specs.List.{flat_map, AllByRecursion, IsDistinct}
 use Rattle.std.proofs.lemmas.Bool.{false≢true}
 use Rattle.std.proofs.lemmas.List.Folds.{list_any-append}
 use Rattle.std.proofs.lemmas.Map.Keys.{IsDistinct-head, IsDistinct-tail}
 use Rattle.plan_model.specs.Checks.{plan_faults}
+use Rattle.vertex_builder.specs.declared.widening.Widening.{Widening}
 use Rattle.plan_model.specs.declared.node.Node.{Node}
 use Rattle.vertex_builder.specs.Chains.{is_among, chain_of, ChainsPart}
-use Rattle.vertex_builder.proofs.Laws.{chains_part}
+use Rattle.vertex_builder.proofs.Laws.{chains_part, either_left, either_right, same_number, same_yes}
 use Rattle.plan_text.specs.Making.{nodes_of_vertices, making_order}
 use Rattle.plan_text.specs.OrderLaws.{EachNodeIsShown}
-use Rattle.plan_text.proofs.EachHead.{are_heads, made_below, same_truth}
-use Rattle.plan_text.proofs.Membership.{same_number, same_yes, below_yes, below_is, either_left, either_right, among_pieces, distinct_append, distinct_range}
+use Rattle.plan_text.proofs.EachHead.{are_heads, made_each, same_truth}
+use Rattle.plan_text.proofs.Membership.{below_yes, below_is, among_pieces, distinct_append, distinct_range}
 
 -- what stands in one of two lists
 in_either : (a b : Bool) (P : Type 0) → (a ≡ true → P) → (b ≡ true → P) → (a || b) ≡ true → P
@@ -73,26 +74,26 @@ pieces_distinct f (x ∷ xs) d each apart =
 
 -- ---- all chains
 
-module _ (nodes : List Node) (good : plan_faults nodes ≡ []) where
-  part : ChainsPart nodes
-  part = chains_part nodes good
+module _ (nodes : List Node) (widened : List Widening) (good : plan_faults nodes ≡ []) where
+  part : ChainsPart nodes widened
+  part = chains_part nodes widened good
 
-  all_shown : (q : ℕ) → is_among (nodes_of_vertices nodes (making_order nodes)) q ≡ nat_lt q (length nodes)
+  all_shown : (q : ℕ) → is_among (nodes_of_vertices nodes widened (making_order nodes widened)) q ≡ nat_lt q (length nodes)
   all_shown q =
-      let made = making_order nodes in
-      same_truth (is_among (nodes_of_vertices nodes made) q) (nat_lt q (length nodes))
-      (λ e. below_yes q (length nodes) (pieces_within (chain_of nodes) (length nodes) q made
-      (λ head is. part.inside head q ((are_heads nodes (length nodes)).heads head is).within) e))
+      let made = making_order nodes widened in
+      same_truth (is_among (nodes_of_vertices nodes widened made) q) (nat_lt q (length nodes))
+      (λ e. below_yes q (length nodes) (pieces_within (chain_of nodes widened) (length nodes) q made
+      (λ head is. part.inside head q ((are_heads nodes widened (length nodes)).heads head is).within) e))
       (λ e.
       let of = part.each q (below_is q (length nodes) e) in
       let within : of.head < length nodes = let lt = below_is q (length nodes) e in omega (arith, of.before, lt) in
-      among_pieces (chain_of nodes) made of.head q (made_below nodes good (suc of.head) of.head (omega arith) within of.is) of.inside)
+      among_pieces (chain_of nodes widened) made of.head q (made_each nodes widened good of.head within of.is) of.inside)
 
-  shown_once : IsDistinct nat_eq (nodes_of_vertices nodes (making_order nodes))
+  shown_once : IsDistinct nat_eq (nodes_of_vertices nodes widened (making_order nodes widened))
   shown_once =
-      let all = are_heads nodes (length nodes) in
-      pieces_distinct (chain_of nodes) (making_order nodes) all.distinct part.once
+      let all = are_heads nodes widened (length nodes) in
+      pieces_distinct (chain_of nodes widened) (making_order nodes widened) all.distinct part.once
       (λ a b q in_a in_b. part.one q a b (all.heads a in_a).head (all.heads b in_b).head)
 
 pub each_node_is_shown : EachNodeIsShown
-each_node_is_shown nodes good = record { all = all_shown nodes good; once = shown_once nodes good }
+each_node_is_shown nodes widened good = record { all = all_shown nodes widened good; once = shown_once nodes widened good }

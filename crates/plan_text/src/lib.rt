@@ -11,8 +11,6 @@ mod lines;
 mod making;
 mod parts;
 mod planned;
-#[cfg(test)]
-mod tests;
 
 pub use checked::check_text;
 pub use laws::{each_head_is_made, each_node_is_shown, inputs_come_before};

@@ -1,4 +1,4 @@
-ghost use Rattle.std.specs.Prelude.{◌≡◌, ◌++◌, map, All, IfOk, OnOk};
+ghost use Rattle.std.specs.Prelude.{◌≡◌, ◌++◌, [], map, All, IfOk, OnOk};
 ghost use Rattle.vertex_builder.specs.Vertices.{makeable_heads, head_of, IsVertex};
 ghost use Rattle.plan_text.specs.Making.{vertices_made};
 
@@ -36,12 +36,12 @@ fn make_more(
     complete: &[u32],
     vertices: &mut Vec<Vertex>,
 ) -> Result<(), NoMemory>
-    requires { All (IsVertex plan.now settings.now.max_parallelism) vertices.old.items }
+    requires { All (IsVertex plan.now [] settings.now.max_parallelism) vertices.old.items }
     ensures heads { OnOk result (map head_of vertices.new.items
         ≡ map head_of vertices.old.items
-        ++ makeable_heads plan.now (map head_of vertices.old.items) complete.now) }
+        ++ makeable_heads plan.now [] (map head_of vertices.old.items) complete.now) }
     ensures vertices { OnOk result
-        (All (IsVertex plan.now settings.now.max_parallelism) vertices.new.items) }
+        (All (IsVertex plan.now [] settings.now.max_parallelism) vertices.new.items) }
 {
     let made = NodeSet::from_vec(heads_of(alloc, vertices.as_slice())?);
     let complete = NodeSet::from_vec(complete.to_vec(alloc)?);
@@ -56,17 +56,7 @@ fn heads_of(alloc: Global, vertices: &[Vertex]) -> Result<Vec<u32>, NoMemory>
 {
     let mut heads = Vec::with_capacity(alloc, vertices.len())?;
     for vertex in vertices {
-        heads.push(head_of(vertex))?;
+        heads.push(vertex.head())?;
     }
     Ok(heads)
-}
-
-// The first node of a vertex.
-fn head_of(vertex: &Vertex) -> u32
-    ensures { result ≡ head_of vertex.now }
-{
-    match vertex.nodes.as_slice().first() {
-        Some(head) => *head,
-        None => 0,
-    }
 }

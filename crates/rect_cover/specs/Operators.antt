@@ -7,6 +7,9 @@ use Rattle.plan_model.specs.Joins.{matches, nulls, or_padded, if_matched, if_unm
 use Rattle.plan_model.specs.declared.agg.Agg.{Agg}
 use Rattle.plan_model.specs.declared.join_kind.JoinKind.{JoinKind}
 use Rattle.plan_model.specs.declared.join_kind.JoinKind.TheVariants as kind
+use Rattle.rect_cover.specs.declared.shape_kind.ShapeKind.{ShapeKind}
+use Rattle.rect_cover.specs.declared.shape_kind.ShapeKind.TheVariants.{LeftDriven, RightDriven}
+use Rattle.rect_cover.specs.declared.shape_kind.ShapeKind.TheVariants.{Inner, Full}
 use Rattle.rect_cover.specs.Heads.{Gives}
 use Rattle.rect_cover.specs.Vertices.{Head, by_key, by_left, by_right, by_pair, by_both}
 use Rattle.rect_cover.specs.Vertices.{Link, widened}
@@ -44,6 +47,13 @@ join_head keys left_width right_width kind.Full =
     by_both (matches keys) (left_gives right_width) (right_alone left_width)
 join_head keys left_width right_width kind.Semi = by_left (matches keys) if_matched
 join_head keys left_width right_width kind.Anti = by_left (matches keys) if_unmatched
+
+-- what a cover of a join demands, by its kind
+abbrev pub join_shape : JoinKind → ShapeKind
+join_shape kind.Inner = Inner
+join_shape kind.Right = RightDriven
+join_shape kind.Full = Full
+join_shape _ = LeftDriven
 
 -- a join that is chained to its left side, which is its probe side
 abbrev pub right_built : List (ℕ × ℕ) → ℕ → ℕ → JoinKind → Link

@@ -34,6 +34,3 @@ pub use rects::Rects;
 pub use shape::Shape;
 pub use shape_kind::ShapeKind;
 pub use subtask::Subtask;
-
-#[cfg(test)]
-mod tests;

@@ -1,5 +1,5 @@
 -- Which edges are chained, by what is kept of a plan.
-use Rattle.std.proofs.Common.{◌≡◌, ◌≢◌, ℕ, zero, suc, ◌+◌, ◌<◌, ◌≤◌, ◌==◌, Bool, true, false, not, ◌&&◌, cond, All, List, [], ◌∷◌, length, take, find, get_or, Option, Some, None, slice_get, refl, sym, ◌∙◌, ap, subst, arith}
+use Rattle.std.proofs.Common.{◌≡◌, ◌≢◌, ℕ, zero, suc, ◌+◌, ◌<◌, ◌≤◌, ◌==◌, Bool, true, false, not, ◌&&◌, ◌||◌, cond, All, List, [], ◌∷◌, ◌++◌, length, take, find, get_or, Option, Some, None, slice_get, refl, sym, ◌∙◌, ap, subst, arith}
 use Rattle.std.specs.List.{list_all, AllByRecursion}
 use Rattle.std.specs.Option.{option_map, option_map_or}
 use Rattle.std.specs.Prelude.{if◌then◌else◌}
@@ -9,15 +9,17 @@ use Rattle.std.proofs.lemmas.Bool.Decides.{nat_tests}
 use Rattle.plan_model.specs.Checks.{plan_faults}
 use Rattle.plan_model.specs.Operators.{may_rebalance}
 use Rattle.plan_model.specs.Widths.{widths_of}
+use Rattle.vertex_builder.specs.declared.widening.Widening.{Widening}
 use Rattle.plan_model.specs.declared.node.Node.{Node}
 use Rattle.plan_model.specs.declared.op.Op.{Op}
 use Rattle.plan_model.specs.declared.op.Op.TheVariants.{Source, Filter, Project, Explode, Union, Aggregate, Distinct, Join, Sink}
 use Rattle.plan_model.specs.declared.ship.Ship.TheVariants.{Forward, Rebalance}
 use Rattle.vertex_builder.specs.declared.edge.Edge.{Edge}
-use Rattle.vertex_builder.specs.Edges.{edges_into, edges_of, consumer_edges, op_ship, ship_into, is_forward, may_chain, is_chained, chained_after, is_head}
+use Rattle.vertex_builder.specs.Edges.{edges_into, edges_of, consumer_edges, op_ship, ship_into, is_forward, is_join, is_probe, may_chain, probe_place, is_chained, chained_after, is_head, takes_rows, widening_of}
 use Rattle.vertex_builder.specs.Links.{IsBelow, ListConsumers}
-use Rattle.vertex_builder.proofs.EdgeLists.{edges_of-next}
+use Rattle.vertex_builder.proofs.EdgeLists.{edges_into-next, edges_of-next}
 use Rattle.plan_model.proofs.Laws.{inputs_earlier, node_read}
+use Rattle.vertex_builder.proofs.Membership.{both_left, both_right}
 
 -- ---- where edges lead
 
@@ -86,14 +88,22 @@ chains_at nodes edge node is =
     ap (λ (at : Option Node). option_map_or (λ n. may_rebalance n.op) at false && is_forward (option_map_or (λ n. ship_into n edge.place width) at Forward)) is
     ∙ forward node.op node.rebalance edge.place width
 
+-- whether an edge that is the only one from its node is chained, by its consumer
+pub chains_by : (nodes : List Node) (widened : List Widening) (edge : Edge) (node : Node) → slice_get nodes edge.into ≡ Some node
+    → (may_chain nodes edge || is_probe nodes widened edge)
+    ≡ (takes_rows node || option_map_or (λ side. edge.place == probe_place side) (if is_join node.op then widening_of widened edge.into else None) false)
+chains_by nodes widened edge node is =
+    (λ i. chains_at nodes edge node is i
+    || option_map_or (λ side. edge.place == probe_place side) (if option_map_or (λ n. is_join n.op) (is i) false then widening_of widened edge.into else None) false)
+
 into_of : Option Edge → Option ℕ
 into_of found = option_map (λ (edge : Edge). edge.into) found
 
 -- several edges, or none
-none_chained : (nodes : List Node) (edges : List Edge) → AllByRecursion (λ edge. (length (consumer_edges nodes edge.from) == 1) ≡ false) edges → find (is_chained nodes) edges ≡ None
-none_chained nodes [] h = refl
-none_chained nodes (edge ∷ edges) h =
-    ap (λ (one : Bool). cond (one && may_chain nodes edge) (Some edge) (find (is_chained nodes) edges)) h.0 ∙ none_chained nodes edges h.1
+none_chained : (nodes : List Node) (widened : List Widening) (edges : List Edge) → AllByRecursion (λ edge. (length (consumer_edges nodes edge.from) == 1) ≡ false) edges → find (is_chained nodes widened) edges ≡ None
+none_chained nodes widened [] h = refl
+none_chained nodes widened (edge ∷ edges) h =
+    ap (λ (one : Bool). cond (one && (may_chain nodes edge || is_probe nodes widened edge)) (Some edge) (find (is_chained nodes widened) edges)) h.0 ∙ none_chained nodes widened edges h.1
 
 not_one : (n : ℕ) → n ≢ 1 → (n == 1) ≡ false
 not_one n ne = grind (arith, nat_tests)
@@ -104,12 +114,12 @@ other_number nodes node [] unlike h = tt
 other_number nodes node (edge ∷ edges) unlike h =
     (ap (λ (n : ℕ). length (consumer_edges nodes n) == 1) (same_number edge.from node h.0) ∙ unlike, other_number nodes node edges unlike h.1)
 
-pub nothing_chained : (nodes : List Node) (node : ℕ) (edges : List Edge) → edges ≡ consumer_edges nodes node → length edges ≢ 1 → None ≡ chained_after nodes node
-nothing_chained nodes node edges e ne =
+pub nothing_chained : (nodes : List Node) (widened : List Widening) (node : ℕ) (edges : List Edge) → edges ≡ consumer_edges nodes node → length edges ≢ 1 → None ≡ chained_after nodes widened node
+nothing_chained nodes widened node edges e ne =
     let all = consumer_edges nodes node in
     let unlike = not_one (length all) (subst (λ (l : List Edge). length l ≢ 1) e ne) in
     let from = recursion_from_All (λ edge. (edge.from == node) ≡ true) all (filter_passes (λ edge. edge.from == node) (edges_of nodes)) in
-    sym (ap (option_map (λ (edge : Edge). edge.into)) (none_chained nodes all (other_number nodes node all unlike from)))
+    sym (ap (option_map (λ (edge : Edge). edge.into)) (none_chained nodes widened all (other_number nodes node all unlike from)))
 
 -- one edge
 abbrev chained_of : Edge → Bool → Option ℕ
@@ -120,17 +130,17 @@ one_item [] edge e = absurd (omega (arith, e))
 one_item (first ∷ []) edge e = refl
 one_item (first ∷ second ∷ edges) edge e = absurd (omega (arith, e))
 
-pub one_chained : (nodes : List Node) (node : ℕ) (edges : List Edge) (none edge : Edge) → edges ≡ consumer_edges nodes node → length edges ≡ 1 → edge ≡ get_or edges 0 none
-    → (may : Bool) → may_chain nodes edge ≡ may → chained_after nodes node ≡ chained_of edge may
-one_chained nodes node edges none edge e one is may says =
+pub one_chained : (nodes : List Node) (widened : List Widening) (node : ℕ) (edges : List Edge) (none edge : Edge) → edges ≡ consumer_edges nodes node → length edges ≡ 1 → edge ≡ get_or edges 0 none
+    → (may : Bool) → (may_chain nodes edge || is_probe nodes widened edge) ≡ may → chained_after nodes widened node ≡ chained_of edge may
+one_chained nodes widened node edges none edge e one is may says =
     let all : consumer_edges nodes node ≡ edge ∷ [] = sym e ∙ one_item edges none one ∙ ap (λ (first : Edge). first ∷ []) (sym is) in
     let lt : 0 < length edges = omega (arith, one) in
     let Q : List Edge → Type 0 = All (λ edge. (edge.from == node) ≡ true) in
     let passes : Q (edge ∷ []) = subst Q all (filter_passes (λ edge. edge.from == node) (edges_of nodes)) in
     let from : edge.from ≡ node = same_number edge.from node (passes 0 edge (omega arith)) in
     let count : length (consumer_edges nodes edge.from) ≡ 1 = ap (λ (n : ℕ). length (consumer_edges nodes n)) from ∙ ap length all in
-    ap (λ (l : List Edge). option_map (λ (edge : Edge). edge.into) (find (is_chained nodes) l)) all
-    ∙ ap (λ (n : ℕ). chained_of edge ((n == 1) && may_chain nodes edge)) count
+    ap (λ (l : List Edge). option_map (λ (edge : Edge). edge.into) (find (is_chained nodes widened) l)) all
+    ∙ ap (λ (n : ℕ). chained_of edge ((n == 1) && (may_chain nodes edge || is_probe nodes widened edge))) count
     ∙ ap (chained_of edge) says
 
 -- the edges of a node, as they are kept
@@ -139,40 +149,32 @@ edges_are nodes lists node edges other h lt same = same ∙ get_or_default lists
 
 -- ---- heads
 
-pub no_head_of_chain : (nodes : List Node) (at place : ℕ) (node : Node) (inputs : List ℕ) → slice_get nodes at ≡ Some node → (may_rebalance node.op && not node.rebalance) ≡ false
-    → list_all (λ edge. not (is_chained nodes edge)) (edges_into at place inputs) ≡ true
-no_head_of_chain nodes at place node [] is unlike = refl
-no_head_of_chain nodes at place node (input ∷ inputs) is unlike =
-    let edge : Edge = record { from = input; into = at; place = place } in
-    let may : may_chain nodes edge ≡ false = chains_at nodes edge node is ∙ unlike in
-    unchained (length (consumer_edges nodes input) == 1) (may_chain nodes edge) (list_all (λ edge. not (is_chained nodes edge)) (edges_into at (place + 1) inputs)) may
-    ∙ no_head_of_chain nodes at (place + 1) node inputs is unlike
+pub head_at : (nodes : List Node) (widened : List Widening) (at : ℕ) (node : Node) → slice_get nodes at ≡ Some node → is_head nodes widened at ≡ list_all (λ edge. not (is_chained nodes widened edge)) (edges_into at 0 node.inputs)
+head_at nodes widened at node is = ap (λ (o : Option Node). list_all (λ edge. not (is_chained nodes widened edge)) (option_map_or (λ n. edges_into at 0 n.inputs) o [])) is
+
+-- one edge more, none of which is chained so far
+pub unchained_next : (p : Edge → Bool) (node k : ℕ) (inputs : List ℕ) → k < length inputs → list_all p (edges_into node 0 (take k inputs)) ≡ true → p (record { from = get_or inputs k 0; into = node; place = k }) ≡ true
+    → list_all p (edges_into node 0 (take (k + 1) inputs)) ≡ true
+unchained_next p node k inputs lt before here =
+    let edge : Edge = record { from = get_or inputs k 0; into = node; place = k } in
+    ap (list_all p) (edges_into-next node inputs k (get_or inputs k 0) lt (get_or_default inputs k 0 (get_or inputs k 0) lt))
+    ∙ both (edges_into node 0 (take k inputs)) edge before here
   where
-    unchained : (one may rest : Bool) → may ≡ false → (not (one && may) && rest) ≡ rest
-    unchained true may rest e = ap (λ (b : Bool). not b && rest) e
-    unchained false may rest e = refl
+    both : (edges : List Edge) (edge : Edge) → list_all p edges ≡ true → p edge ≡ true → list_all p (edges ++ edge ∷ []) ≡ true
+    both [] edge all here = ap (λ (b : Bool). b && true) here
+    both (first ∷ edges) edge all here = (λ i. both_left (p first) (list_all p edges) all i && both edges edge (both_right (p first) (list_all p edges) all) here i)
 
-pub head_of_chain : (nodes : List Node) (lists : List (List Edge)) (at place : ℕ) (node : Node) (inputs : List ℕ) → slice_get nodes at ≡ Some node → (may_rebalance node.op && not node.rebalance) ≡ true
-    → AllByRecursion (λ input. get_or lists input [] ≡ consumer_edges nodes input) inputs
-    → list_all (λ edge. not (is_chained nodes edge)) (edges_into at place inputs) ≡ list_all (λ input. not (length (get_or lists input []) == 1)) inputs
-head_of_chain nodes lists at place node [] is like h = refl
-head_of_chain nodes lists at place node (input ∷ inputs) is like h =
-    let edge : Edge = record { from = input; into = at; place = place } in
-    let may : may_chain nodes edge ≡ true = chains_at nodes edge node is ∙ like in
-    let rest = list_all (λ edge. not (is_chained nodes edge)) (edges_into at (place + 1) inputs) in
-    chained (length (consumer_edges nodes input) == 1) (may_chain nodes edge) rest may
-    ∙ ap (λ (l : List Edge). not (length l == 1) && rest) (sym h.0)
-    ∙ ap (λ (r : Bool). not (length (get_or lists input []) == 1) && r) (head_of_chain nodes lists at (place + 1) node inputs is like h.1)
+-- an edge that is chained
+pub chained_at : (p : Edge → Bool) (node place k at : ℕ) (inputs : List ℕ) → k < length inputs → at ≡ place + k → p (record { from = get_or inputs k 0; into = node; place = at }) ≡ false → list_all p (edges_into node place inputs) ≡ false
+chained_at p node place k at [] lt is fails = absurd (omega (arith, lt))
+chained_at p node place zero at (input ∷ inputs) lt is fails =
+    let here : place ≡ at = omega (arith, is) in
+    let rest = list_all p (edges_into node (place + 1) inputs) in
+    ap (λ (n : ℕ). p (record { from = input; into = node; place = n }) && rest) here ∙ ap (λ (b : Bool). b && rest) fails
+chained_at p node place (suc k) at (input ∷ inputs) lt is fails =
+    ap (λ (b : Bool). p (record { from = input; into = node; place = place }) && b) (chained_at p node (place + 1) k at inputs (omega (arith, lt)) (omega (arith, is)) fails)
+    ∙ never (p (record { from = input; into = node; place = place }))
   where
-    chained : (one may rest : Bool) → may ≡ true → (not (one && may) && rest) ≡ (not one && rest)
-    chained true may rest e = ap (λ (b : Bool). not b && rest) e
-    chained false may rest e = refl
-
-pub head_at : (nodes : List Node) (at : ℕ) (node : Node) → slice_get nodes at ≡ Some node → is_head nodes at ≡ list_all (λ edge. not (is_chained nodes edge)) (edges_into at 0 node.inputs)
-head_at nodes at node is = ap (λ (o : Option Node). list_all (λ edge. not (is_chained nodes edge)) (option_map_or (λ n. edges_into at 0 n.inputs) o [])) is
-
--- the lists of inputs that stand before a node
-pub lists_of_inputs : (nodes : List Node) (lists : List (List Edge)) (at : ℕ) (inputs : List ℕ) → ListConsumers nodes lists → at < length nodes → AllByRecursion (λ input. input < at) inputs
-    → AllByRecursion (λ input. get_or lists input [] ≡ consumer_edges nodes input) inputs
-lists_of_inputs nodes lists at [] h lt before = tt
-lists_of_inputs nodes lists at (input ∷ inputs) h lt before = (h.each input (omega (arith, before.0, lt)), lists_of_inputs nodes lists at inputs h lt before.1)
+    never : (b : Bool) → (b && false) ≡ false
+    never true = refl
+    never false = refl

@@ -1,8 +1,8 @@
 -- Edges, one node or one input more at a time, and lists of them.
-use Rattle.std.proofs.Common.{◌≡◌, ℕ, zero, suc, ◌+◌, ◌<◌, ◌==◌, List, [], ◌∷◌, ◌++◌, length, take, filter, get_or, replicate, slice_index_or, refl, sym, ◌∙◌, ap, append_assoc, arith, length-take-le}
-use Rattle.std.specs.List.{range_with_len}
+use Rattle.std.proofs.Common.{◌≡◌, ℕ, zero, suc, ◌+◌, ◌<◌, ◌==◌, List, [], ◌∷◌, ◌++◌, length, take, filter, get_or, Option, replicate, slice_index_or, refl, sym, ◌∙◌, ap, append_assoc, arith, length-take-le}
+use Rattle.std.specs.List.{cons_option, filter_map, range_with_len}
 use Rattle.std.proofs.lemmas.List.{append-nil, take_more}
-use Rattle.std.proofs.lemmas.List.Elements.{filter-append}
+use Rattle.std.proofs.lemmas.List.Elements.{filter-append, filter_map-append}
 use Rattle.plan_model.specs.declared.node.Node.{Node}
 use Rattle.vertex_builder.specs.declared.edge.Edge.{Edge}
 use Rattle.vertex_builder.specs.Edges.{edges_into, edges_from, edges_of, consumer_edges}
@@ -44,6 +44,10 @@ edges_of-next nodes k node lt is =
     ∙ edges_from-append 0 (take k nodes) (node ∷ [])
     ∙ ap (λ (n : ℕ). edges_of (take k nodes) ++ edges_from n (node ∷ [])) (length_front nodes k lt)
     ∙ ap (λ (edges : List Edge). edges_of (take k nodes) ++ edges) (append-nil (edges_into k 0 node.inputs))
+
+-- what is had of one item more
+pub mapped_next : {X Y : Type 0} (h : X → Option Y) (xs : List X) (k : ℕ) (d : X) → k < length xs → filter_map h (take (k + 1) xs) ≡ filter_map h (take k xs) ++ cons_option (h (get_or xs k d)) []
+mapped_next h xs k d lt = ap (filter_map h) (take_more xs k d lt) ∙ filter_map-append h (take k xs) (get_or xs k d ∷ [])
 
 -- ---- lists of edges
 

@@ -6,6 +6,7 @@ use Rattle.std.proofs.lemmas.Bool.{false≢true}
 use Rattle.std.proofs.lemmas.Option.{none-some}
 use Rattle.std.proofs.lemmas.List.Elements.{recursion_from_All}
 use Rattle.plan_model.specs.Checks.{plan_faults}
+use Rattle.vertex_builder.specs.declared.widening.Widening.{Widening}
 use Rattle.plan_model.specs.declared.node.Node.{Node}
 use Rattle.vertex_builder.specs.declared.edge.Edge.{Edge}
 use Rattle.vertex_builder.specs.Chains.{is_among, IsChain, chain_from, chain_of}
@@ -27,46 +28,46 @@ found_leads_on p node end next (edge ∷ edges) h e = at (p edge) (found_leads_o
     at true later is = let to = same_item edge.into next is in record { above = omega (arith, h.0.above, to); below = omega (arith, h.0.below, to) }
     at false later is = later is
 
-pub chained_is_later : (nodes : List Node) (node next : ℕ) → plan_faults nodes ≡ [] → chained_after nodes node ≡ Some next → IsBelow node next (length nodes)
-chained_is_later nodes node next good e =
-    found_leads_on (is_chained nodes) node (length nodes) next (consumer_edges nodes node) (recursion_from_All (λ edge. IsBelow node edge.into (length nodes)) (consumer_edges nodes node) (edges_lead_on nodes node good)) e
+pub chained_is_later : (nodes : List Node) (widened : List Widening) (node next : ℕ) → plan_faults nodes ≡ [] → chained_after nodes widened node ≡ Some next → IsBelow node next (length nodes)
+chained_is_later nodes widened node next good e =
+    found_leads_on (is_chained nodes widened) node (length nodes) next (consumer_edges nodes node) (recursion_from_All (λ edge. IsBelow node edge.into (length nodes)) (consumer_edges nodes node) (edges_lead_on nodes node good)) e
 
 -- ---- the chain that is computed
 
 -- a node before a chain
-longer : (nodes : List Node) (node next : ℕ) (chain : List ℕ) → chained_after nodes node ≡ Some next → IsChain nodes next chain → IsChain nodes node (node ∷ chain)
-longer nodes node next chain to of = record { first = refl; next = at }
+longer : (nodes : List Node) (widened : List Widening) (node next : ℕ) (chain : List ℕ) → chained_after nodes widened node ≡ Some next → IsChain nodes widened next chain → IsChain nodes widened node (node ∷ chain)
+longer nodes widened node next chain to of = record { first = refl; next = at }
   where
-    at : (k : ℕ) → k < length (node ∷ chain) → slice_get (node ∷ chain) (k + 1) ≡ chained_after nodes (get_or (node ∷ chain) k 0)
+    at : (k : ℕ) → k < length (node ∷ chain) → slice_get (node ∷ chain) (k + 1) ≡ chained_after nodes widened (get_or (node ∷ chain) k 0)
     at zero lt = of.first ∙ sym to
     at (suc k) lt = let on : suc k + 1 ≡ suc (k + 1) = omega arith in ap (slice_get (node ∷ chain)) on ∙ of.next k (omega (arith, lt))
 
-alone : (nodes : List Node) (node : ℕ) → chained_after nodes node ≡ None → IsChain nodes node (node ∷ [])
-alone nodes node to = record { first = refl; next = at }
+alone : (nodes : List Node) (widened : List Widening) (node : ℕ) → chained_after nodes widened node ≡ None → IsChain nodes widened node (node ∷ [])
+alone nodes widened node to = record { first = refl; next = at }
   where
-    at : (k : ℕ) → k < 1 → slice_get (node ∷ []) (k + 1) ≡ chained_after nodes (get_or (node ∷ []) k 0)
+    at : (k : ℕ) → k < 1 → slice_get (node ∷ []) (k + 1) ≡ chained_after nodes widened (get_or (node ∷ []) k 0)
     at zero lt = sym to
     at (suc k) lt = absurd (omega (arith, lt))
 
-is_chain_from : (nodes : List Node) (more node : ℕ) → plan_faults nodes ≡ [] → length nodes ≤ node + more + 1 → IsChain nodes node (chain_from more nodes node)
-is_chain_from nodes zero node good le = alone nodes node (at (chained_after nodes node) refl)
+is_chain_from : (nodes : List Node) (widened : List Widening) (more node : ℕ) → plan_faults nodes ≡ [] → length nodes ≤ node + more + 1 → IsChain nodes widened node (chain_from more nodes widened node)
+is_chain_from nodes widened zero node good le = alone nodes widened node (at (chained_after nodes widened node) refl)
   where
-    at : (o : Option ℕ) → chained_after nodes node ≡ o → o ≡ None
+    at : (o : Option ℕ) → chained_after nodes widened node ≡ o → o ≡ None
     at None to = refl
     at (Some next) to =
-        let later = chained_is_later nodes node next good to in
+        let later = chained_is_later nodes widened node next good to in
         absurd (omega (arith, later.above, later.below, le))
-is_chain_from nodes (suc more) node good le = at (chained_after nodes node) refl (λ next. is_chain_from nodes more next good)
+is_chain_from nodes widened (suc more) node good le = at (chained_after nodes widened node) refl (λ next. is_chain_from nodes widened more next good)
   where
-    at : (o : Option ℕ) → chained_after nodes node ≡ o → ((next : ℕ) → length nodes ≤ next + more + 1 → IsChain nodes next (chain_from more nodes next))
-        → IsChain nodes node (node ∷ option_map_or (chain_from more nodes) o [])
-    at None to rest = alone nodes node to
+    at : (o : Option ℕ) → chained_after nodes widened node ≡ o → ((next : ℕ) → length nodes ≤ next + more + 1 → IsChain nodes widened next (chain_from more nodes widened next))
+        → IsChain nodes widened node (node ∷ option_map_or (chain_from more nodes widened) o [])
+    at None to rest = alone nodes widened node to
     at (Some next) to rest =
-        let later = chained_is_later nodes node next good to in
-        longer nodes node next (chain_from more nodes next) to (rest next (omega (arith, later.above, le)))
+        let later = chained_is_later nodes widened node next good to in
+        longer nodes widened node next (chain_from more nodes widened next) to (rest next (omega (arith, later.above, le)))
 
-pub is_chain : (nodes : List Node) (head : ℕ) → plan_faults nodes ≡ [] → IsChain nodes head (chain_of nodes head)
-is_chain nodes head good = is_chain_from nodes (length nodes) head good (omega arith)
+pub is_chain : (nodes : List Node) (widened : List Widening) (head : ℕ) → plan_faults nodes ≡ [] → IsChain nodes widened head (chain_of nodes widened head)
+is_chain nodes widened head good = is_chain_from nodes widened (length nodes) head good (omega arith)
 
 -- ---- the nodes of a chain are the plan's
 
@@ -75,15 +76,15 @@ in_either : (a b : Bool) (P : Type 0) → (a ≡ true → P) → (b ≡ true →
 in_either true b P f g e = f refl
 in_either false b P f g e = g e
 
-pub chain_within : (nodes : List Node) (more node q : ℕ) → plan_faults nodes ≡ [] → node < length nodes → is_among (chain_from more nodes node) q ≡ true → q < length nodes
-chain_within nodes zero node q good within e =
+pub chain_within : (nodes : List Node) (widened : List Widening) (more node q : ℕ) → plan_faults nodes ≡ [] → node < length nodes → is_among (chain_from more nodes widened node) q ≡ true → q < length nodes
+chain_within nodes widened zero node q good within e =
     in_either (nat_eq q node) false (q < length nodes) (λ is. let here = same_number q node is in omega (arith, here, within)) (λ is. absurd (false≢true is)) e
-chain_within nodes (suc more) node q good within e =
-    in_either (nat_eq q node) (is_among (option_map_or (chain_from more nodes) (chained_after nodes node) []) q) (q < length nodes)
+chain_within nodes widened (suc more) node q good within e =
+    in_either (nat_eq q node) (is_among (option_map_or (chain_from more nodes widened) (chained_after nodes widened node) []) q) (q < length nodes)
     (λ is. let here = same_number q node is in omega (arith, here, within))
-    (behind (chained_after nodes node) refl (λ next. chain_within nodes more next q good)) e
+    (behind (chained_after nodes widened node) refl (λ next. chain_within nodes widened more next q good)) e
   where
-    behind : (o : Option ℕ) → chained_after nodes node ≡ o → ((next : ℕ) → next < length nodes → is_among (chain_from more nodes next) q ≡ true → q < length nodes)
-        → is_among (option_map_or (chain_from more nodes) o []) q ≡ true → q < length nodes
+    behind : (o : Option ℕ) → chained_after nodes widened node ≡ o → ((next : ℕ) → next < length nodes → is_among (chain_from more nodes widened next) q ≡ true → q < length nodes)
+        → is_among (option_map_or (chain_from more nodes widened) o []) q ≡ true → q < length nodes
     behind None to rest is = absurd (false≢true is)
-    behind (Some next) to rest is = rest next (chained_is_later nodes node next good to).below is
+    behind (Some next) to rest is = rest next (chained_is_later nodes widened node next good to).below is

@@ -15,6 +15,9 @@ same_number m n e = grind (arith, nat_tests)
 pub other_number : (m n : ℕ) → m < n → nat_eq m n ≡ false
 other_number m n lt = grind (arith, nat_tests)
 
+pub flipped : (m n : ℕ) → nat_eq m n ≡ false → nat_eq n m ≡ false
+flipped m n e = grind (arith, nat_tests)
+
 pub either_right : (a b : Bool) → b ≡ true → (a || b) ≡ true
 either_right true b e = refl
 either_right false b e = e
@@ -22,6 +25,14 @@ either_right false b e = e
 pub either_left : (a b : Bool) → a ≡ true → (a || b) ≡ true
 either_left true b e = refl
 either_left false b e = absurd (false≢true e)
+
+pub neither_left : (a b : Bool) → (a || b) ≡ false → a ≡ false
+neither_left true b e = e
+neither_left false b e = refl
+
+pub neither_right : (a b : Bool) → (a || b) ≡ false → b ≡ false
+neither_right true b e = absurd (false≢true (sym e))
+neither_right false b e = e
 
 pub both_left : (a b : Bool) → (a && b) ≡ true → a ≡ true
 both_left true b e = refl

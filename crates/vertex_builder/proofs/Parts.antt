@@ -6,10 +6,10 @@ use Rattle.plan_model.specs.Operators.{is_source, is_sink}
 use Rattle.plan_model.specs.declared.node.Node.{Node}
 use Rattle.vertex_builder.specs.declared.edge.Edge.{Edge}
 use Rattle.vertex_builder.specs.Edges.{edges_into, consumer_edges}
-use Rattle.vertex_builder.specs.Vertices.{files_input, vertex_input, vertex_inputs, text_output, vertex_output, vertex_outputs}
+use Rattle.vertex_builder.specs.Vertices.{files_input, vertex_input, head_inputs, text_output, vertex_output, vertex_outputs}
 use Rattle.vertex_builder.proofs.EdgeLists.{edges_into-next}
 
-pub inputs_of_edges : (nodes : List Node) (head : ℕ) (node : Node) → slice_get nodes head ≡ Some node → is_source node.op ≡ false → vertex_inputs nodes head ≡ map (vertex_input nodes) (edges_into head 0 node.inputs)
+pub inputs_of_edges : (nodes : List Node) (head : ℕ) (node : Node) → slice_get nodes head ≡ Some node → is_source node.op ≡ false → head_inputs nodes head ≡ map (vertex_input nodes) (edges_into head 0 node.inputs)
 inputs_of_edges nodes head node is e =
     ap (λ (o : Option Node). if option_map_or (λ n. is_source n.op) o false then files_input head ∷ [] else map (vertex_input nodes) (option_map_or (λ n. edges_into head 0 n.inputs) o [])) is
     ∙ ap (λ (b : Bool). if b then files_input head ∷ [] else map (vertex_input nodes) (edges_into head 0 node.inputs)) e

@@ -1,5 +1,5 @@
 -- The edges of a plan, and how rows go along them.
-use Rattle.std.specs.Prelude.{ℕ, ◌+◌, ◌==◌, Bool, true, false, not, ◌&&◌, List, [], ◌∷◌, ◌++◌, length, map, filter, find, get_or, slice_get, Option, if◌then◌else◌}
+use Rattle.std.specs.Prelude.{ℕ, ◌+◌, ◌==◌, Bool, true, false, not, ◌&&◌, ◌||◌, List, [], ◌∷◌, ◌++◌, length, map, filter, find, get_or, slice_get, Option, None, if◌then◌else◌}
 use Rattle.std.specs.List.{list_all, range_with_len}
 use Rattle.std.specs.Option.{option_map, option_map_or}
 use Rattle.plan_model.specs.Operators.{may_rebalance}
@@ -9,7 +9,10 @@ use Rattle.plan_model.specs.declared.op.Op.{Op}
 use Rattle.plan_model.specs.declared.op.Op.TheVariants.{Union, Aggregate, Distinct, Join}
 use Rattle.plan_model.specs.declared.ship.Ship.{Ship}
 use Rattle.plan_model.specs.declared.ship.Ship.TheVariants.{Forward, Hash, Rebalance}
+use Rattle.plan_model.specs.declared.side.Side.{Side}
+use Rattle.plan_model.specs.declared.side.Side.TheVariants.{Left, Right}
 use Rattle.vertex_builder.specs.declared.edge.Edge.{Edge}
+use Rattle.vertex_builder.specs.declared.widening.Widening.{Widening}
 
 -- ---- edges
 
@@ -73,15 +76,57 @@ may_chain nodes edge =
     option_map_or (λ node. may_rebalance node.op) (slice_get nodes edge.into) false
     && is_forward (edge_ship nodes edge)
 
--- an edge that may chain, and is the only one from its node
-abbrev pub is_chained : List Node → Edge → Bool
-is_chained nodes edge = (length (consumer_edges nodes edge.from) == 1) && may_chain nodes edge
+-- it works on one row of one input at a time, and its rows come as they are
+abbrev pub takes_rows : Node → Bool
+takes_rows node = may_rebalance node.op && not node.rebalance
+
+-- ---- widened joins
+
+abbrev pub is_join : Op → Bool
+is_join (Join kind keys) = true
+is_join _ = false
+
+abbrev pub is_join_at : List Node → ℕ → Bool
+is_join_at nodes place = option_map_or (λ node. is_join node.op) (slice_get nodes place) false
+
+-- the build side of the first widening of a node
+abbrev pub widening_of : List Widening → ℕ → Option Side
+widening_of widened node =
+    option_map (λ widening. widening.side) (find (λ widening. widening.node == node) widened)
+
+-- the side of a widened join that is read whole
+abbrev pub build_side : List Node → List Widening → ℕ → Option Side
+build_side nodes widened node = if is_join_at nodes node then widening_of widened node else None
+
+-- the inputs of a join at which it takes the side that is built, and the other
+abbrev pub build_place : Side → ℕ
+build_place Left = 0
+build_place Right = 1
+
+abbrev pub probe_place : Side → ℕ
+probe_place Left = 1
+probe_place Right = 0
+
+-- the edge goes into a widened join on its probe side
+abbrev pub is_probe : List Node → List Widening → Edge → Bool
+is_probe nodes widened edge = option_map_or
+    (λ side. edge.place == probe_place side) (build_side nodes widened edge.into) false
+
+-- ---- chains
+
+-- the only edge from its node, into an operator that works on one row at a time or into the probe
+-- side of a widened join
+abbrev pub is_chained : List Node → List Widening → Edge → Bool
+is_chained nodes widened edge =
+    (length (consumer_edges nodes edge.from) == 1)
+    && (may_chain nodes edge || is_probe nodes widened edge)
 
 -- the node that is chained after a node
-abbrev pub chained_after : List Node → ℕ → Option ℕ
-chained_after nodes node =
-    option_map (λ edge. edge.into) (find (is_chained nodes) (consumer_edges nodes node))
+abbrev pub chained_after : List Node → List Widening → ℕ → Option ℕ
+chained_after nodes widened node =
+    option_map (λ edge. edge.into) (find (is_chained nodes widened) (consumer_edges nodes node))
 
 -- none of the edges into the node is chained
-abbrev pub is_head : List Node → ℕ → Bool
-is_head nodes node = list_all (λ edge. not (is_chained nodes edge)) (input_edges nodes node)
+abbrev pub is_head : List Node → List Widening → ℕ → Bool
+is_head nodes widened node =
+    list_all (λ edge. not (is_chained nodes widened edge)) (input_edges nodes node)

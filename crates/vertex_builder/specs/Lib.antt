@@ -1,4 +1,5 @@
 pub mod Chains
 pub mod Edges
+pub mod Inputs
 pub mod Links
 pub mod Vertices

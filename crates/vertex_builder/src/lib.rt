@@ -2,11 +2,13 @@
 //! A vertex can be made once the vertices of its inputs are complete.
 #![tactic(auto)]
 
+mod build_side;
 mod builder;
 mod chain;
 mod consumers;
 mod edge;
 mod edge_list;
+mod inputs;
 mod links;
 mod making;
 mod marks;
@@ -14,8 +16,6 @@ mod node_list;
 mod node_set;
 mod node_widths;
 mod shipping;
-#[cfg(test)]
-mod tests;
 mod vertex;
 mod vertex_input;
 mod vertex_inputs;
@@ -29,6 +29,7 @@ pub use builder::makeable;
 pub use chain::{chained_nodes_take_one, chains_part_the_plan, one_chain};
 use edge::Edge;
 use edge_list::EdgeList;
+pub use inputs::{inputs_come_out, vertices_stay};
 pub use making::one_answer;
 pub use node_list::NodeList;
 pub use node_set::NodeSet;

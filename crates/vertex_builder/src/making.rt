@@ -1,12 +1,12 @@
 ghost use Rattle.std.specs.Prelude.{◌≡◌, ◌<◌, ◌^◌, ◌∷◌, [], length, map, All, IfOk};
 ghost use Rattle.plan_model.specs.Operators.{is_source};
 ghost use Rattle.vertex_builder.specs.Edges.{edges_into};
-ghost use Rattle.vertex_builder.specs.Vertices.{files_input, text_output, vertex_input, vertex_inputs, vertex_output, vertex_outputs, head_of, IsVertex, OneAnswer};
+ghost use Rattle.vertex_builder.specs.Vertices.{files_input, text_output, head_inputs, vertex_input, vertex_inputs, vertex_output, vertex_outputs, head_of, IsVertex, OneAnswer};
 
-use crate::chain::chain_of;
+use crate::chain::{build_edges, chain_of};
 use crate::links::Links;
 use crate::shipping::cells_of;
-use crate::{Edge, Vertex, VertexInput, VertexInputs, VertexOutput, VertexOutputs};
+use crate::{Edge, Vertex, VertexInput, VertexInputs, VertexOutput, VertexOutputs, Widening};
 use plan_model::{Op, Ship};
 use row_core::NoMemory;
 use std::alloc::Global;
@@ -15,17 +15,18 @@ use std::alloc::Global;
 pub fn vertex_of(
     alloc: Global,
     links: &Links,
+    widened: &[Widening],
     max_parallelism: u32,
     head: u32,
 ) -> Result<Vertex, NoMemory>
     requires { head < length links.now }
     ensures head { IfOk result (λ vertex. head_of vertex ≡ head) }
-    ensures vertex { IfOk result (IsVertex links.now max_parallelism) }
+    ensures vertex { IfOk result (IsVertex links.now widened.now max_parallelism) }
 {
-    let nodes = chain_of(alloc, links, head)?;
+    let nodes = chain_of(alloc, links, widened, head)?;
     let chain = nodes.as_slice();
     let last = chain[chain.len() - 1];
-    let inputs = inputs_of(alloc, links, head)?;
+    let inputs = inputs_of(alloc, links, widened, chain)?;
     let outputs = outputs_of(alloc, links, max_parallelism, last)?;
     Ok(Vertex {
         nodes,
@@ -34,16 +35,47 @@ pub fn vertex_of(
     })
 }
 
+// What comes in at a chain.
+fn inputs_of(
+    alloc: Global,
+    links: &Links,
+    widened: &[Widening],
+    chain: &[u32],
+) -> Result<VertexInputs, NoMemory>
+    requires some { 0 < length chain.now }
+    requires inside { All (λ node. node < length links.now) chain.now }
+    ensures { IfOk result
+        (λ inputs. inputs ≡ vertex_inputs links.now widened.now chain.now) }
+{
+    let mut inputs = head_inputs(alloc, links, chain[0])?.into_vec();
+    let builds = build_edges(alloc, links, widened, &chain[1..])?;
+    let mut built = build_inputs(alloc, links, builds.as_slice())?;
+    inputs.append(&mut built)?;
+    Ok(VertexInputs::from_vec(inputs))
+}
+
 // What comes in at a head.
-fn inputs_of(alloc: Global, links: &Links, head: u32) -> Result<VertexInputs, NoMemory>
+fn head_inputs(alloc: Global, links: &Links, head: u32) -> Result<VertexInputs, NoMemory>
     requires { head < length links.now }
-    ensures { IfOk result (λ inputs. inputs ≡ vertex_inputs links.now head) }
+    ensures { IfOk result (λ inputs. inputs ≡ head_inputs links.now head) }
 {
     let node = links.node(head);
     if is_source(&node.op) {
         return files_of(alloc, head);
     }
     edge_inputs(alloc, links, head, node.inputs.as_slice())
+}
+
+// What comes in along these edges.
+fn build_inputs(alloc: Global, links: &Links, edges: &[Edge]) -> Result<Vec<VertexInput>, NoMemory>
+    requires { All (λ edge. edge.into < length links.now) edges.now }
+    ensures { IfOk result (λ made. made.items ≡ map (vertex_input links.now) edges.now) }
+{
+    let mut made = Vec::with_capacity(alloc, edges.len())?;
+    for edge in edges {
+        made.push(input_along(alloc, links, *edge)?)?;
+    }
+    Ok(made)
 }
 
 fn is_source(op: &Op) -> bool

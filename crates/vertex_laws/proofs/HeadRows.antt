@@ -15,9 +15,9 @@ use Rattle.plan_model.specs.declared.op.Op.{Op}
 use Rattle.plan_model.specs.declared.op.Op.TheVariants.{Source, Filter, Project, Explode, Union, Aggregate, Distinct, Join, Sink}
 use Rattle.operator_laws.specs.Applied.{applied}
 use Rattle.operator_laws.proofs.Laws.{node_applies, row_each}
-use Rattle.rect_cover.specs.Operators.{aggregate_head, distinct_head, join_head}
+use Rattle.rect_cover.specs.Operators.{aggregate_head, distinct_head, join_head, join_shape}
 use Rattle.rect_cover.specs.Vertices.{Head, by_row, head_rows, input_at, kind_of}
-use Rattle.vertex_laws.specs.VertexRows.{head_bag, input_bags, no_files, join_shape, op_shape}
+use Rattle.vertex_laws.specs.VertexRows.{head_bag, input_bags, no_files, op_shape}
 
 -- ---- rows that are read, as bags
 

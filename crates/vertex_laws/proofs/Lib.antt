@@ -2,4 +2,5 @@ mod ChainRows
 mod HeadRows
 mod Placed
 mod PlanBags
+mod SameBags
 mod Together

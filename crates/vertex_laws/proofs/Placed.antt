@@ -26,7 +26,7 @@ use Rattle.rect_cover.specs.Heads.{MatchesInColumn, MeetsInColumn, StandsAt}
 use Rattle.rect_cover.specs.Operators.{aggregate_head, distinct_head, join_head}
 use Rattle.rect_cover.specs.Vertices.{GoesByBags, IsPlaced}
 use Rattle.vertex_builder.specs.Edges.{edges_into, edge_ship, op_ship, ship_into}
-use Rattle.vertex_builder.specs.Vertices.{vertex_input, vertex_inputs}
+use Rattle.vertex_builder.specs.Vertices.{vertex_input, head_inputs}
 use Rattle.vertex_builder.specs.declared.edge.Edge.{Edge}
 use Rattle.vertex_builder.specs.declared.vertex_input.VertexInput.{VertexInput}
 use Rattle.vertex_builder.proofs.Laws.{inputs_of_edges}
@@ -117,7 +117,7 @@ module _ (nodes : List Node) (hash : Row → ℕ) (cells head : ℕ) (node : Nod
   by_grid columns input hashed = subst (λ (n : ℕ). StandsAt (λ row. hash (key_of columns row) % n) input) (sym hashed.cells) hashed.stands
 
   module _ (laws : HeadLaws) (widths : List ℕ) (inputs : List Input) where
-    comes : (op : Op) → node.op ≡ op → is_source op ≡ false → AllZip Shipped (vertex_inputs nodes head) inputs → Comes node.inputs inputs
+    comes : (op : Op) → node.op ≡ op → is_source op ≡ false → AllZip Shipped (head_inputs nodes head) inputs → Comes node.inputs inputs
     comes op is other come = subst (λ (ins : List VertexInput). AllZip Shipped ins inputs) (inputs_of_edges nodes head node at (ap is_source is ∙ other)) come
 
     number : (op : Op) → node.op ≡ op → takes op (length node.inputs) ≡ true
@@ -136,7 +136,7 @@ module _ (nodes : List Node) (hash : Row → ℕ) (cells head : ℕ) (node : Nod
     join_placed keys lw rw kind.Semi two = (laws.joins keys lw rw kind.Semi, matched keys two)
     join_placed keys lw rw kind.Anti two = (laws.joins keys lw rw kind.Anti, matched keys two)
 
-    pub placed : (op : Op) → node.op ≡ op → AllZip Shipped (vertex_inputs nodes head) inputs → IsPlaced (op_head op widths) inputs
+    pub placed : (op : Op) → node.op ≡ op → AllZip Shipped (head_inputs nodes head) inputs → IsPlaced (op_head op widths) inputs
     placed (Source table columns) is come = tt
     placed (Filter test) is come = tt
     placed (Project exprs) is come = tt

@@ -1,4 +1,4 @@
-use Rattle.std.proofs.Common.{◌≡◌, ◌+◌, ◌<◌, ◌≤◌, ◌++◌, ℕ, List, length, map, All, sym, ◌∙◌, ap, subst, arith}
+use Rattle.std.proofs.Common.{◌≡◌, ◌+◌, ◌<◌, ◌≤◌, ◌++◌, ℕ, List, [], length, map, All, sym, ◌∙◌, ap, subst, arith}
 use Rattle.std.proofs.lemmas.List.{length-map}
 use Rattle.plan_model.specs.Checks.{plan_faults}
 use Rattle.plan_model.specs.Settings.{default_values}
@@ -23,12 +23,12 @@ loop-place-preserved c =
     let good = sym (ap plan_faults c.nodes-count.ensures.same) ∙ c.nodes-count.ensures.faultless in
     let chain = chain_at nodes default_values.max_parallelism vertices k vertex good c.loop-place.invariant.vertices within c.index.ensures in
     let done : c.extend_from_slice.new.self.items ≡ complete ++ vertex.nodes = c.in_ok-extend_from_slice.ensures.items ∙ ap (λ (l : List ℕ). complete ++ l) c.as_slice-in-loop-place.ensures in
-    let more : after ≡ heads ++ makeable_heads nodes heads (complete ++ vertex.nodes) =
-    c.in_ok-make_more-2.ensures.heads ∙ ap (λ (l : List ℕ). heads ++ makeable_heads nodes heads l) (c.as_slice-in-loop-place-2.ensures.value ∙ done) in
+    let more : after ≡ heads ++ makeable_heads nodes [] heads (complete ++ vertex.nodes) =
+    c.in_ok-make_more-2.ensures.heads ∙ ap (λ (l : List ℕ). heads ++ makeable_heads nodes [] heads l) (c.as_slice-in-loop-place-2.ensures.value ∙ done) in
     record {
-      rounds = subst (AfterRounds nodes (k + 1) after) (sym done)
-          (round nodes k heads complete vertex.nodes after c.loop-place.invariant.rounds (omega (arith, within, length-map vertices head_of)) chain more);
-      vertices = subst (λ (values : SettingValues). All (IsVertex nodes values.max_parallelism) c.make_more-in-loop-place.new.vertices.items) c.defaults-settings.ensures c.in_ok-make_more-2.ensures.vertices;
+      rounds = subst (AfterRounds nodes [] (k + 1) after) (sym done)
+          (round nodes [] k heads complete vertex.nodes after c.loop-place.invariant.rounds (omega (arith, within, length-map vertices head_of)) chain more);
+      vertices = subst (λ (values : SettingValues). All (IsVertex nodes [] values.max_parallelism) c.make_more-in-loop-place.new.vertices.items) c.defaults-settings.ensures c.in_ok-make_more-2.ensures.vertices;
     }
 
 pub returns : goal.returns
@@ -43,8 +43,8 @@ returns c =
     (elim c.loop-place-test.branch [
       | else-loop-place-test w ↦
           let all : k ≡ length nodes = omega (arith, w.loop-place-test.false, c.loop-place.auto.place-end, count) in
-          made ∙ ap (heads_made nodes) all
+          made ∙ ap (heads_made nodes []) all
       | then-loop-place-test+then-place-len w ↦
-          let past : length (heads_made nodes k) ≤ k = omega (arith, ap length made, length-map vertices head_of, w.if-place-len.true, w.len.ensures) in
-          made ∙ sym (settled nodes k (length nodes) (omega (arith, c.loop-place.auto.place-end, count)) past)
+          let past : length (heads_made nodes [] k) ≤ k = omega (arith, ap length made, length-map vertices head_of, w.if-place-len.true, w.len.ensures) in
+          made ∙ sym (settled nodes [] k (length nodes) (omega (arith, c.loop-place.auto.place-end, count)) past)
     ])

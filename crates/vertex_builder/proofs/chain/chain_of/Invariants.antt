@@ -4,7 +4,7 @@ use Rattle.vertex_builder.proofs.chain.chain_of.Given as goal
 
 abbrev pub invariant-loop-next : goal.invariant-loop-next
 invariant-loop-next l = record {
-  front : IsFront l.links l.head l.chain.items l.last;
+  front : IsFront l.links l.widened l.head l.chain.items l.last;
   within : l.last < length l.links;
 }
 

@@ -5,8 +5,8 @@ use Rattle.vertex_laws.proofs.bags.vertices_give_bags.Goals as goal
 
 pub returns : goal.returns
 returns c = record {
-  whole = λ files nodes max_parallelism vertex rows good is within hold. gives_bag nodes max_parallelism vertex good is within files rows hold;
-  sum = λ files nodes max_parallelism vertex hash inputs subtasks good is within shipped cover hold.
-      same_on (c.vertices_are_sums.ensures nodes max_parallelism vertex hash inputs subtasks good is within shipped cover)
-      (gives_bag nodes max_parallelism vertex good is within files (wholes inputs) hold);
+  whole = λ files nodes widened max_parallelism vertex rows good is within hold. gives_bag nodes widened max_parallelism vertex good is within files rows hold;
+  sum = λ files nodes widened max_parallelism vertex hash inputs subtasks good may is within shipped cover hold.
+      same_on (c.vertices_are_sums.ensures nodes widened max_parallelism vertex hash inputs subtasks good may is within shipped cover)
+      (gives_bag nodes widened max_parallelism vertex good is within files (wholes inputs) hold);
 }
