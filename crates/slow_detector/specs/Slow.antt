@@ -1,6 +1,6 @@
 -- When a running subtask of a vertex is slow.
-use Rattle.std.specs.Prelude.{◌≡◌, ◌≤◌, ◌<◌, ◌-◌, ◌*◌, ◌/◌, ℕ, Bool, ◌&&◌, nat_le, nat_lt, max, List, length, map, filter, slice_get, Some, IsSorted, IsPermutation}
-use Rattle.std.specs.Ordering.{nat_cmp}
+use Rattle.std.specs.Prelude.{◌≡◌, ◌≤◌, ◌<◌, ◌-◌, ◌*◌, ◌/◌, ℕ, Bool, ◌&&◌, nat_le, nat_lt, max, List, length, map, filter, IsPermutation}
+use Rattle.medians.specs.Medians.{IsMedian}
 use Rattle.plan_model.specs.declared.setting_values.SettingValues.{SettingValues}
 use Rattle.slow_detector.specs.declared.run.Run.{Run}
 
@@ -9,13 +9,6 @@ pub record EnoughFinished (settings : SettingValues) (parallelism : ℕ) (times 
     : Type 0 where
   pub some : 0 < length times
   pub ratio : settings.slow_ratio * parallelism ≤ 100 * length times
-
--- the number in the middle of the numbers in ascending order, the lower one of two
-pub record IsMedian (numbers : List ℕ) (median : ℕ) : Type 0 where
-  pub sorted : List ℕ
-  pub same : IsPermutation numbers sorted
-  pub ascending : IsSorted nat_cmp sorted
-  pub middle : slice_get sorted ((length numbers - 1) / 2) ≡ Some median
 
 -- the running time from which on a subtask is slow, in milliseconds
 abbrev pub baseline : SettingValues → ℕ → ℕ

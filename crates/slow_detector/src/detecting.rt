@@ -1,8 +1,9 @@
 ghost use Rattle.std.specs.Prelude.{◌≡◌, ◌<◌, ◌↔◌, [], length, IsTrue, IfOk, IsSorted};
 ghost use Rattle.std.specs.Ordering.{nat_cmp};
-ghost use Rattle.slow_detector.specs.Slow.{EnoughFinished, IsMedian, AreTheSlow, baseline, slow_subtasks};
+ghost use Rattle.slow_detector.specs.Slow.{EnoughFinished, AreTheSlow, baseline, slow_subtasks};
 
 use crate::{NoMemory, Run, Runs, Subtasks, Times};
+use medians::median;
 use plan_model::Settings;
 use std::alloc::Global;
 
@@ -36,15 +37,6 @@ fn enough_finished(parallelism: u32, times: &[u64], settings: &Settings) -> bool
 {
     let wanted = u128::from(settings.slow_ratio()) * u128::from(parallelism);
     !times.is_empty() && wanted <= 100 * times.len() as u128
-}
-
-fn median(alloc: Global, times: &[u64]) -> Result<u64, NoMemory>
-    requires { 0 < length times.now }
-    ensures { IfOk result (IsMedian times.now) }
-{
-    let mut sorted = Vec::from_slice(alloc, times)?;
-    sorted.sort()?;
-    Ok(sorted[(times.len() - 1) / 2])
 }
 
 // In 128 bits, since a percentage of a time may pass 64.

@@ -6,8 +6,6 @@ mod detecting;
 mod run;
 mod runs;
 mod subtasks;
-#[cfg(test)]
-mod tests;
 mod times;
 
 pub use detecting::slow;

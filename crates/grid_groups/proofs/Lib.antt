@@ -1,0 +1,5 @@
+mod Sums
+mod Groups
+mod Filled
+mod Covers
+pub mod Laws

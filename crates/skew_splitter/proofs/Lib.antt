@@ -1,0 +1,7 @@
+mod Steps
+mod Chains
+mod Shares
+mod Items
+mod Covers
+mod Fulls
+mod Decided
