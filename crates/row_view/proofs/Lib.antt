@@ -1,0 +1,5 @@
+mod Fronts
+pub mod Laws
+mod Places
+mod Stops
+mod Taking
