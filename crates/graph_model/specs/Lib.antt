@@ -1,0 +1,10 @@
+pub mod States
+pub mod Reads
+pub mod Closures
+pub mod Legal
+pub mod Folds
+pub mod Valid
+pub mod Links
+pub mod Reading
+pub mod Reaching
+pub mod Indexes

@@ -1,0 +1,6 @@
+mod Bridging
+mod Cells
+mod Example
+mod Files
+mod Sinks
+mod Truth

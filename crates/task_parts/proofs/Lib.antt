@@ -1,0 +1,2 @@
+mod ByBags
+pub mod Laws
