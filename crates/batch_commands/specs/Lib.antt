@@ -1,0 +1,10 @@
+pub mod Answers
+pub mod Causes
+pub mod Commits
+pub mod Jobs
+pub mod Orders
+pub mod Outcomes
+pub mod Printing
+pub mod Refusals
+pub mod Tables
+pub mod Views

@@ -1,0 +1,65 @@
+use crate::file_system::FileSystem;
+use crate::folders::{has_file, make_folder};
+use row_core::NoMemory;
+use std::alloc::Global;
+use std::fs::{File, OpenOptions};
+use std::io;
+use std::process::Process;
+
+/// The folder `estate/` below a root: its paths, and the lock that one process at a time holds to write.
+#[derive(Drop)]
+pub struct EstateFolder<'a, R> {
+    pub rt: (&'a R, Global),
+    root: String,
+    pub estate: String,
+    lock: String,
+    pub log: String,
+    pub parts: String,
+    pub out: String,
+    process: u32,
+    held: Option<File>,
+}
+
+impl<'a, R: FileSystem> EstateFolder<'a, R> {
+    /// Opens nothing.
+    pub fn new(rt: &'a R, process: Process, alloc: Global, root: &str) -> Result<Self, NoMemory> {
+        Ok(EstateFolder {
+            rt: (rt, alloc),
+            root: String::from_str(alloc, root)?,
+            estate: format!(in alloc; "{root}/estate")?,
+            lock: format!(in alloc; "{root}/estate/lock")?,
+            log: format!(in alloc; "{root}/estate/log")?,
+            parts: format!(in alloc; "{root}/estate/parts")?,
+            out: format!(in alloc; "{root}/estate/out")?,
+            process: std::process::id(process),
+            held: None,
+        })
+    }
+
+    /// Takes the lock, unless it is held already. Where another process has it, the answer is an error at
+    /// once, and nothing else is touched. It is held while this lives. Takes no memory.
+    pub fn lock(&mut self) -> io::Result<()> {
+        if self.held.is_none() {
+            make_folder(&self.rt, self.estate.as_str(), self.root.as_str())?;
+            has_file(&self.rt, self.lock.as_str())?;
+            let file = OpenOptions::new()
+                .read(true)
+                .write(true)
+                .create(true)
+                .open(&self.rt, self.lock.as_str())?;
+            file.try_lock()?;
+            self.held = Some(file);
+        }
+        Ok(())
+    }
+
+    /// The path of a name in one of the folders.
+    pub fn place(&self, folder: &str, name: &str) -> Result<String, NoMemory> {
+        format!(in self.rt.1; "{folder}/{name}")
+    }
+
+    /// Where this process writes what is to get that place by a rename.
+    pub fn aside(&self, folder: &str, name: &str) -> Result<String, NoMemory> {
+        format!(in self.rt.1; "{folder}/.{name}.{}.partial", self.process)
+    }
+}
