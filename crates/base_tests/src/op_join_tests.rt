@@ -1,0 +1,85 @@
+use op_join::{BuildSide, join, join_owned};
+use plan_model::{JoinKind, KeyPairs, Widths};
+use row_core::{NoMemory, Row, Rows, Value};
+use std::alloc::Global;
+use std::test::Fail;
+
+fn row_of(alloc: Global, number: i64) -> Result<Row, NoMemory> {
+    let mut row = Row::new(alloc);
+    row.push(Value::Int(number))?;
+    Ok(row)
+}
+
+// A row of one number for each.
+fn rows_of(alloc: Global, numbers: &[i64]) -> Result<Rows, NoMemory> {
+    let mut rows = Rows::new(alloc);
+    for number in numbers {
+        rows.push(row_of(alloc, *number)?)?;
+    }
+    Ok(rows)
+}
+
+// The first multiples of a number, in rows of their own.
+fn multiples(alloc: Global, of: i64, limit: i64) -> Result<Rows, NoMemory> {
+    let mut rows = Rows::new(alloc);
+    for number in 0..limit {
+        rows.push(row_of(alloc, number.wrapping_mul(of))?)?;
+    }
+    Ok(rows)
+}
+
+// A kind of join, and how many rows it has of 1, 2, 2 and 1, 1, 3.
+const KINDS: &[(JoinKind, usize)] = &[
+    (JoinKind::Inner, 2),
+    (JoinKind::Left, 4),
+    (JoinKind::Right, 3),
+    (JoinKind::Full, 5),
+    (JoinKind::Semi, 1),
+    (JoinKind::Anti, 2),
+];
+
+#[test]
+fn each_kind_has_its_rows(rt: HostRuntime) -> Result<(), Fail> {
+    let alloc = rt.alloc();
+    let keys = KeyPairs::from_vec(vec![in alloc; (0, 0)]?);
+    let widths = Widths { left: 1, right: 1 };
+    for (kind, count) in KINDS {
+        let left = rows_of(alloc, &[1, 2, 2])?;
+        let right = rows_of(alloc, &[1, 1, 3])?;
+        let rows = join(alloc, *kind, &keys, widths, &left, &right)?;
+        assert_eq!(rt; rows.len(), *count);
+        let rows = join_owned(alloc, *kind, &keys, widths, left, right)?;
+        assert_eq!(rt; rows.len(), *count);
+    }
+    Ok(())
+}
+
+#[test]
+fn batches_probe_one_build_side(rt: HostRuntime) -> Result<(), Fail> {
+    let alloc = rt.alloc();
+    let keys = KeyPairs::from_vec(vec![in alloc; (0, 0)]?);
+    let widths = Widths { left: 1, right: 1 };
+    let right = rows_of(alloc, &[1, 1, 3])?;
+    let side = BuildSide::new(alloc, JoinKind::Left, &keys, widths, &right)?;
+    assert_eq!(rt; side.probe(alloc, rows_of(alloc, &[1, 2])?)?.len(), 3);
+    assert_eq!(rt; side.probe(alloc, rows_of(alloc, &[2])?)?.len(), 1);
+    Ok(())
+}
+
+// Each in far less time than a comparison of all pairs takes.
+#[test]
+fn many_rows_are_joined_quickly(rt: HostRuntime) -> Result<(), Fail> {
+    let alloc = rt.alloc();
+    let keys = KeyPairs::from_vec(vec![in alloc; (0, 0)]?);
+    let widths = Widths { left: 1, right: 1 };
+    let each = multiples(alloc, 1, 200_000)?;
+    let same = multiples(alloc, 0, 100_000)?;
+    let few = multiples(alloc, 0, 10)?;
+    let pairs = join(alloc, JoinKind::Inner, &keys, widths, &each, &each)?;
+    assert_eq!(rt; pairs.len(), 200_000);
+    let many = join(alloc, JoinKind::Full, &keys, widths, &same, &few)?;
+    assert_eq!(rt; many.len(), 1_000_000);
+    let moved = join_owned(alloc, JoinKind::Semi, &keys, widths, each, same)?;
+    assert_eq!(rt; moved.len(), 1);
+    Ok(())
+}
