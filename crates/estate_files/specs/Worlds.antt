@@ -1,21 +1,22 @@
 -- The world of an estate that tells nothing but its counts.
-use Rattle.std.specs.Prelude.{◌≡◌, ℕ, true, false, IsTrue, []}
+use Rattle.std.specs.Prelude.{◌≡◌, true, false, IsTrue, []}
+use Rattle.estate.specs.Holding.{Counts, empty_holding}
 use Rattle.estate.specs.World.{World, IsWorld}
 
-abbrev pub counted_world : ℕ → ℕ → ℕ → ℕ → World
-counted_world log shelf sink losses = record {
+abbrev pub counted_world : Counts → World
+counted_world counts = record {
   told = false;
-  holding = record { log = []; ever = []; held = []; commits = [] };
+  holding = empty_holding;
   now = 0;
   images = λ moment image. ⊥;
-  counts = record { log_faults = log; shelf_faults = shelf; sink_faults = sink; losses = losses };
+  counts = counts;
 }
 
 never : {A : Type 0} → IsTrue false → A
 never told = let impossible : false ≡ true = told in cc
 
-pub counted_lawful : (log shelf sink losses : ℕ) → IsWorld (counted_world log shelf sink losses)
-counted_lawful log shelf sink losses = record {
+pub counted_lawful : (counts : Counts) → IsWorld (counted_world counts)
+counted_lawful counts = record {
   tells = λ t image left. absurd left;
   own = λ told. never told;
   distinct = λ told. never told;

@@ -1,5 +1,6 @@
 use crate::file_system::FileSystem;
 use crate::folders::{has_file, make_folder};
+use crate::path_below::path_below;
 use row_core::NoMemory;
 use std::alloc::Global;
 use std::fs::{File, OpenOptions};
@@ -23,14 +24,15 @@ pub struct EstateFolder<'a, R> {
 impl<'a, R: FileSystem> EstateFolder<'a, R> {
     /// Opens nothing.
     pub fn new(rt: &'a R, process: Process, alloc: Global, root: &str) -> Result<Self, NoMemory> {
+        let estate = path_below(alloc, root, "estate")?;
         Ok(EstateFolder {
             rt: (rt, alloc),
             root: String::from_str(alloc, root)?,
-            estate: format!(in alloc; "{root}/estate")?,
-            lock: format!(in alloc; "{root}/estate/lock")?,
-            log: format!(in alloc; "{root}/estate/log")?,
-            parts: format!(in alloc; "{root}/estate/parts")?,
-            out: format!(in alloc; "{root}/estate/out")?,
+            lock: path_below(alloc, estate.as_str(), "lock")?,
+            log: path_below(alloc, estate.as_str(), "log")?,
+            parts: path_below(alloc, estate.as_str(), "parts")?,
+            out: path_below(alloc, estate.as_str(), "out")?,
+            estate,
             process: std::process::id(process),
             held: None,
         })
@@ -55,7 +57,7 @@ impl<'a, R: FileSystem> EstateFolder<'a, R> {
 
     /// The path of a name in one of the folders.
     pub fn place(&self, folder: &str, name: &str) -> Result<String, NoMemory> {
-        format!(in self.rt.1; "{folder}/{name}")
+        path_below(self.rt.1, folder, name)
     }
 
     /// Where this process writes what is to get that place by a rename.

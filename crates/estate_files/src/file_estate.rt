@@ -1,22 +1,24 @@
-ghost use Rattle.std.specs.Prelude.{◌≡◌, ◌⊎◌, ◌≤◌};
+ghost use Rattle.std.specs.Prelude.{◌≡◌, ◌⊎◌, ◌≤◌, IfOk};
 ghost use Rattle.estate.specs.Changes.{Rose};
+ghost use Rattle.estate.specs.Holding.{no_counts};
 ghost use Rattle.estate_files.specs.Worlds.{counted_world};
 
 use crate::estate_folder::EstateFolder;
-use crate::file_error::FileError;
 use crate::file_log::FileLog;
 use crate::file_shelf::FileShelf;
 use crate::file_sink::{FileSink, committed_job};
 use crate::file_system::FileSystem;
 use estate::{Edges, Estate, EstateError, Names, PartName};
+use part_files::FileError;
 use row_core::{Bytes, NoMemory};
 use std::alloc::Global;
+use std::marker::Model;
 use std::process::Process;
 
 /// The estate of a folder: the log is the file `estate/log`, each part a file in `estate/parts/`, each
 /// commit a folder in `estate/out/`. The first call that may write takes a lock on `estate/lock`, which
 /// is held while the estate lives: where another process has it, the call fails. Nothing is kept in
-/// memory but what a call needs. It tells nothing of what it holds.
+/// memory but what a call needs. It tells nothing of what it holds: contracts see its counts.
 #[derive(Drop)]
 pub struct FileEstate<'a, R> {
     folder: EstateFolder<'a, R>,
@@ -29,9 +31,24 @@ pub struct FileEstate<'a, R> {
     losses: u64,
 }
 
+impl<'a, R> Model for FileEstate<'a, R> {
+    ghost use Rattle.estate.specs.Holding.{Counts};
+
+    ghost Value = { Counts };
+
+    ghost view = { λ estate. record {
+      log_faults = estate.log_faults;
+      shelf_faults = estate.shelf_faults;
+      sink_faults = estate.sink_faults;
+      losses = estate.losses;
+    } };
+}
+
 impl<'a, R: FileSystem> FileEstate<'a, R> {
     /// The estate of the folder `estate/` below the root. Opens nothing.
-    pub fn new(rt: &'a R, process: Process, alloc: Global, root: &str) -> Result<Self, NoMemory> {
+    pub fn new(rt: &'a R, process: Process, alloc: Global, root: &str) -> Result<Self, NoMemory>
+        ensures { IfOk result (λ made. made ≡ no_counts) }
+    {
         Ok(FileEstate {
             folder: EstateFolder::new(rt, process, alloc, root)?,
             log: FileLog::new(),
@@ -70,7 +87,7 @@ fn counted(faults: &mut u64, error: FileError) -> EstateError
 impl<'a, R: FileSystem> Estate for FileEstate<'a, R> {
     ghost use Rattle.estate_files.specs.Worlds.{counted_lawful};
 
-    ghost world = { λ e. counted_world e.log_faults e.shelf_faults e.sink_faults e.losses };
+    ghost world = { counted_world };
 
     fn log_len(&mut self) -> Result<u64, EstateError> {
         match self.log.len(&self.folder) {
@@ -141,5 +158,5 @@ impl<'a, R: FileSystem> Estate for FileEstate<'a, R> {
         }
     }
 
-    ghost lawful = { λ e. counted_lawful e.log_faults e.shelf_faults e.sink_faults e.losses };
+    ghost lawful = { counted_lawful };
 }

@@ -1,17 +1,20 @@
-ghost use Rattle.std.specs.Prelude.{◌≡◌, ◌⊎◌, ◌≤◌, false, []};
+ghost use Rattle.std.specs.Prelude.{◌≡◌, ◌⊎◌, ◌≤◌, false, [], IfOk};
 ghost use Rattle.estate.specs.Changes.{Rose};
 
 use crate::entries::sorted_names;
-use crate::file_error::FileError;
 use crate::file_name::file_name;
 use crate::file_system::FileSystem;
+use crate::path_below::path_below;
 use estate::{InputError, Inputs, Sizes};
+use part_files::FileError;
 use row_core::{Bytes, NoMemory};
 use std::alloc::Global;
+use std::marker::Model;
 use std::{fs, io};
 
 /// The inputs of a folder: `job.json`, and for each table the files of `tables/<table>/` whose names end
-/// in `.csv`. They tell nothing of what they hold: what a file gives is the system's word.
+/// in `.csv`. They tell nothing of what they hold, since what a file gives is the system's word:
+/// contracts see how often they have failed.
 #[derive(Drop)]
 pub struct FileInputs<'a, R> {
     rt: (&'a R, Global),
@@ -28,9 +31,19 @@ struct Listing {
     paths: Vec<String>,
 }
 
+impl<'a, R> Model for FileInputs<'a, R> {
+    ghost use Rattle.std.specs.Prelude.{ℕ};
+
+    ghost Value = { ℕ };
+
+    ghost view = { λ inputs. inputs.faults };
+}
+
 impl<'a, R: FileSystem> FileInputs<'a, R> {
     /// The inputs of the root folder. Opens nothing.
-    pub fn new(rt: &'a R, alloc: Global, root: &str) -> Result<Self, NoMemory> {
+    pub fn new(rt: &'a R, alloc: Global, root: &str) -> Result<Self, NoMemory>
+        ensures { IfOk result (λ made. made ≡ 0) }
+    {
         Ok(FileInputs {
             rt: (rt, alloc),
             root: String::from_str(alloc, root)?,
@@ -56,8 +69,8 @@ fn counted(faults: &mut u64, error: FileError) -> InputError
 }
 
 impl<'a, R: FileSystem> Inputs for FileInputs<'a, R> {
-    ghost contents = { λ i.
-        record { told = false; job = []; files = λ table. []; faults = i.faults } };
+    ghost contents = { λ faults.
+        record { told = false; job = []; files = λ table. []; faults = faults } };
 
     fn job_text(&mut self) -> Result<Bytes, InputError> {
         match job(&self.rt, self.root.as_str()) {
@@ -88,7 +101,7 @@ impl<'a, R: FileSystem> Inputs for FileInputs<'a, R> {
 }
 
 fn job<R: FileSystem>(rt: &R, root: &str) -> Result<Bytes, FileError> {
-    let path = format!(in rt.alloc(); "{root}/job.json")?;
+    let path = path_below(rt.alloc(), root, "job.json")?;
     file_size(rt, path.as_str())?;
     Ok(Bytes::from_vec(fs::read(rt, path.as_str())?))
 }
@@ -164,11 +177,12 @@ fn listed_paths<'a>(listings: &'a [Listing], table: &Bytes) -> Option<&'a [Strin
 // name that is no text is passed over like any other that is no file's of a table.
 fn csv_paths<R: FileSystem>(rt: &R, root: &str, table: &Bytes) -> Result<Vec<String>, FileError> {
     let alloc = rt.alloc();
-    let folder = format!(in alloc; "{root}/tables/{}", file_name(table)?)?;
+    let tables = path_below(alloc, root, "tables")?;
+    let folder = path_below(alloc, tables.as_str(), file_name(table)?)?;
     let mut paths = Vec::new(alloc);
     for name in sorted_names(rt, folder.as_str())? {
         if name.ends_with(".csv") {
-            paths.push(format!(in alloc; "{folder}/{name}")?)?;
+            paths.push(path_below(alloc, folder.as_str(), name.as_str())?)?;
         }
     }
     Ok(paths)

@@ -1,8 +1,7 @@
-use crate::bytes_at::bytes_at;
 use crate::estate_folder::EstateFolder;
-use crate::file_error::FileError;
 use crate::file_system::FileSystem;
 use crate::folders::{has_file, sync_folder};
+use part_files::{FileError, bytes_at};
 use row_core::Bytes;
 use std::fs::{File, OpenOptions};
 use std::io;

@@ -3,13 +3,11 @@ ghost use Rattle.estate.specs.Changes.{Rose};
 
 use crate::entries::names_in;
 use crate::estate_folder::EstateFolder;
-use crate::file_error::FileError;
 use crate::file_system::FileSystem;
 use crate::folders::{make_folder, remove_any, remove_rests};
 use crate::open_part::OpenPart;
-use crate::part_bytes::part_bytes;
-use crate::part_text::{part_named, part_text};
 use estate::{Edges, Names, PartName};
+use part_files::{FileError, part_bytes, part_named, part_text};
 use row_core::Bytes;
 use std::fs::{File, Metadata, OpenFile};
 use std::io::Write;
@@ -94,7 +92,8 @@ impl FileShelf {
             Some(part) if part.is(name, found) => part.cell(alloc, edge, cell),
             _ => {
                 self.open = None;
-                let part = OpenPart::open(&folder.rt, alloc, name, path)?;
+                let file = File::open(&folder.rt, path)?;
+                let part = OpenPart::open(alloc, name, file)?;
                 let bytes = part.cell(alloc, edge, cell)?;
                 self.open = Some(part);
                 Ok(bytes)

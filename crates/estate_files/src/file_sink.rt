@@ -1,8 +1,8 @@
 use crate::estate_folder::EstateFolder;
-use crate::file_error::FileError;
 use crate::file_name::file_name;
 use crate::file_system::FileSystem;
 use crate::folders::{has_file, has_folder, make_folder, remove_any, remove_rests, sync_folder};
+use part_files::FileError;
 use row_core::Bytes;
 use std::fs::{File, OpenFile};
 use std::io::Write;

@@ -1,6 +1,7 @@
 use crate::entries::names_in;
-use crate::file_error::FileError;
 use crate::file_system::FileSystem;
+use crate::path_below::path_below;
+use part_files::FileError;
 use std::fs::OpenFile;
 use std::{fs, io};
 
@@ -54,7 +55,7 @@ pub fn has_folder<R: FileSystem>(rt: &R, path: &str) -> io::Result<bool> {
 pub fn remove_rests<R: FileSystem>(rt: &R, folder: &str) -> Result<(), FileError> {
     for name in names_in(rt, folder)? {
         if name.starts_with('.') && name.ends_with(".partial") {
-            let path = format!(in rt.alloc(); "{folder}/{name}")?;
+            let path = path_below(rt.alloc(), folder, name.as_str())?;
             remove_any(rt, path.as_str())?;
         }
     }

@@ -2,11 +2,8 @@
 //! output and the system's clock. What a file gives is the system's word, so nothing here tells content.
 #![tactic(auto)]
 
-mod bytes_at;
-mod cell_place;
 mod entries;
 mod estate_folder;
-mod file_error;
 mod file_estate;
 mod file_inputs;
 mod file_log;
@@ -16,11 +13,8 @@ mod file_sink;
 mod file_system;
 mod folders;
 mod open_part;
-mod part_bytes;
-mod part_header;
-mod part_text;
+mod path_below;
 mod real_clock;
-mod source;
 mod std_printer;
 
 pub use file_estate::FileEstate;

@@ -1,44 +1,24 @@
-ghost use Rattle.std.specs.Prelude.{◌≡◌, [], map, IfOk};
-ghost use Rattle.std.specs.List.{slice_index_or};
-ghost use Rattle.estate_files.specs.Sources.{Told, cells_at};
-
-use crate::bytes_at::bytes_at;
-use crate::cell_place::CellPlace;
-use crate::file_error::FileError;
-use crate::file_system::FileSystem;
-use crate::part_header::cell_places;
-use crate::source::Source;
 use estate::PartName;
+use part_files::{FileError, PartFile};
 use row_core::Bytes;
 use std::alloc::Global;
 use std::fs::{File, Metadata};
 use std::os::unix::fs::MetadataExt;
 
-/// The file of a part that is open, and where its cells stand.
+/// The file of a part that is open.
 #[derive(Drop)]
 pub struct OpenPart {
     name: PartName,
     found: Metadata,
-    file: File,
-    edges: Vec<Vec<CellPlace>>,
+    part: PartFile<File>,
 }
 
 impl OpenPart {
-    pub fn open<R: FileSystem>(
-        rt: &R,
-        alloc: Global,
-        name: PartName,
-        path: &str,
-    ) -> Result<Self, FileError> {
-        let file = File::open(rt, path)?;
+    /// Reads where its cells stand.
+    pub fn open(alloc: Global, name: PartName, file: File) -> Result<Self, FileError> {
         let found = file.metadata()?;
-        let edges = cell_places(alloc, &file)?;
-        Ok(OpenPart {
-            name,
-            found,
-            file,
-            edges,
-        })
+        let part = PartFile::open(alloc, file)?;
+        Ok(OpenPart { name, found, part })
     }
 
     /// Whether this is the part of that name, and the file that was found is still the one that is open.
@@ -48,28 +28,7 @@ impl OpenPart {
 
     /// The bytes of a cell; none where the part has no such edge or cell.
     pub fn cell(&self, alloc: Global, edge: u32, cell: u32) -> Result<Bytes, FileError> {
-        cell_bytes(alloc, &self.file, self.edges.as_slice(), edge, cell)
-    }
-}
-
-// The bytes at a cell's place, and no others are read.
-fn cell_bytes<S: Source>(
-    alloc: Global,
-    source: &S,
-    edges: &[Vec<CellPlace>],
-    edge: u32,
-    cell: u32,
-) -> Result<Bytes, FileError>
-    ensures { IfOk result (λ found. Told (S.told source.now) (λ bytes. found ≡
-        slice_index_or (slice_index_or (map (λ e. cells_at bytes e.items) edges.now) edge [])
-        cell [])) }
-{
-    let Some(cells) = edges.get(edge as usize) else {
-        return Ok(Bytes::new(alloc));
-    };
-    match cells.get(cell as usize) {
-        Some(place) => Ok(bytes_at(alloc, source, place.at, place.len)?),
-        None => Ok(Bytes::new(alloc)),
+        self.part.cell(alloc, edge, cell)
     }
 }
 
