@@ -1,9 +1,9 @@
-ghost use Rattle.std.specs.Prelude.{◌≡◌, ◌+◌, ◌<◌, ◌≤◌, [], not, false, true, length, get_or, count_by, filter, All, vec_len, vec_capacity, OnOk, IfOk};
+ghost use Rattle.std.specs.Prelude.{◌≡◌, ◌+◌, ◌<◌, ◌≤◌, ℕ, nat_eq, [], not, false, true, length, get_or, count_by, filter, All, vec_len, vec_capacity, OnOk, IfOk};
 ghost use Rattle.std.specs.List.{sum_by};
 ghost use Rattle.reader_index.specs.Kept.{IsKept, tasks_of};
-ghost use Rattle.reader_index.specs.Tasks.{is_done, is_of, no_tasks, with_done, with_task, with_tasks};
+ghost use Rattle.reader_index.specs.Tasks.{is_between, is_done, is_of, no_tasks, with_done, with_task, with_tasks};
 
-use crate::turning::{lower, raise};
+use crate::turning::{collect, lower, raise};
 use crate::{Links, Producers, Read};
 use row_core::NoMemory;
 use std::alloc::{AllocError, Global};
@@ -164,6 +164,19 @@ impl Index {
     {
         let start = if task == 0 { 0 } else { self.ends[task - 1] };
         &self.links.reads.as_slice()[start..self.ends[task]]
+    }
+
+    /// The readers of a task, each as often as it reads from it.
+    pub fn readers_of(&self, alloc: Global, task: usize) -> Result<Vec<usize>, NoMemory>
+        requires index { IsKept self.now }
+        requires inside { task < length self.now.done.items }
+        ensures { IfOk result (λ readers. (n : ℕ) → count_by (nat_eq n) readers.items
+            ≡ count_by (is_between n task) self.now.links.reads.items) }
+    {
+        let first = self.links.last[task];
+        let reads = self.links.reads.as_slice();
+        let earlier = self.links.earlier.as_slice();
+        collect(alloc, reads, earlier, first)
     }
 }
 

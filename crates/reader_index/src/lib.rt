@@ -15,4 +15,4 @@ use links::Links;
 pub use producers::Producers;
 pub use read::Read;
 pub use reader_index::ReaderIndex;
-use turning::{lower, raise};
+use turning::{collect, lower, raise};

@@ -1,5 +1,6 @@
-ghost use Rattle.std.specs.Prelude.{◌≡◌, ◌<◌, [], false, true, length, get_or, map, All, OnOk, OnErr};
-ghost use Rattle.reader_index.specs.Tasks.{is_done, missing, no_tasks, reads_of, undone, with_done, with_tasks};
+ghost use Rattle.std.specs.Prelude.{◌≡◌, ◌<◌, ℕ, nat_eq, [], false, true, length, get_or, map, count_by, All, IfOk, OnOk, OnErr};
+ghost use Rattle.reader_index.specs.Links.{IsInside};
+ghost use Rattle.reader_index.specs.Tasks.{is_between, is_done, missing, no_tasks, reads_of, undone, with_done, with_tasks};
 
 use crate::index::count_all;
 use crate::{Index, Producers, Read};
@@ -35,9 +36,10 @@ impl ReaderIndex {
         }
     }
 
-    /// The number of tasks.
+    /// The number of tasks. All reads are by these and from these.
     pub fn count(&self) -> usize
-        ensures { result ≡ length self.now.done }
+        ensures count { result ≡ length self.now.done }
+        ensures inside { All (IsInside (length self.now.done)) self.now.reads }
     {
         self.index.done.len()
     }
@@ -102,5 +104,14 @@ impl ReaderIndex {
         ensures { result.now ≡ reads_of self.now task }
     {
         self.index.reads_of(task)
+    }
+
+    /// The readers of a task, each as often as it reads from it.
+    pub fn readers_of(&self, alloc: Global, task: usize) -> Result<Vec<usize>, NoMemory>
+        requires { task < length self.now.done }
+        ensures { IfOk result (λ readers. (n : ℕ)
+            → count_by (nat_eq n) readers.items ≡ count_by (is_between n task) self.now.reads) }
+    {
+        self.index.readers_of(alloc, task)
     }
 }

@@ -1,7 +1,9 @@
-ghost use Rattle.std.specs.Prelude.{◌≡◌, ◌+◌, ◌<◌, ◌≤◌, ◌^◌, ℕ, nat_eq, length, get_or, count_by, All};
+ghost use Rattle.std.specs.Prelude.{◌≡◌, ◌+◌, ◌<◌, ◌≤◌, ◌^◌, ℕ, nat_eq, length, get_or, count_by, All, IfOk};
 ghost use Rattle.reader_index.specs.Links.{chain_at};
 
 use crate::Read;
+use row_core::NoMemory;
+use std::alloc::Global;
 
 /// Takes one from the count of each reader in the chain that begins at a read, as often as it
 /// stands there.
@@ -45,4 +47,25 @@ pub fn raise(counts: &mut Vec<usize>, reads: &[Read], earlier: &[usize], first: 
         counts[reader] += 1;
         at = earlier[at - 1];
     }
+}
+
+/// The readers in the chain that begins at a read.
+pub fn collect(
+    alloc: Global,
+    reads: &[Read],
+    earlier: &[usize],
+    first: usize,
+) -> Result<Vec<usize>, NoMemory>
+    requires len { length earlier.now ≡ length reads.now }
+    requires back { (k : ℕ) → get_or earlier.now k 0 ≤ k }
+    requires first { first ≤ length reads.now }
+    ensures { IfOk result (λ readers. readers.items ≡ chain_at reads.now earlier.now first) }
+{
+    let mut readers = Vec::new(alloc);
+    let mut at = first;
+    while at > 0 {
+        readers.push(reads[at - 1].reader)?;
+        at = earlier[at - 1];
+    }
+    Ok(readers)
 }

@@ -1,0 +1,6 @@
+mod Finding
+mod Items
+pub mod Laws
+mod Leading
+mod Readers
+mod Underway

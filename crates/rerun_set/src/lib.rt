@@ -1,0 +1,10 @@
+//! Which tasks run again where results of some are gone: the least set of tasks that has each whose
+//! result is gone and still wanted, and with a task each of its readers that was done. It is found
+//! by a search along readers and producers.
+#![tactic(auto)]
+
+mod closing;
+mod search;
+
+pub use closing::reruns;
+use search::Search;
