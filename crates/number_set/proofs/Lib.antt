@@ -1,0 +1,5 @@
+mod Below
+mod Growing
+mod Pairing
+mod Rising
+mod Spreading
