@@ -1,0 +1,4 @@
+pub mod Makers
+pub mod Making
+pub mod Widening
+pub mod Winning
