@@ -1,0 +1,4 @@
+mod Listing
+mod Pairing
+mod Stops
+mod Tags
