@@ -506,9 +506,6 @@ fn gives(rt: &HostRuntime, root: &str, asked: Asked, want: Option<&str>) -> Resu
 const WITH_NO_FILES: &[(Asked, Option<&str>)] = &[
     (Asked::Job, None),
     (Asked::Sizes("orders"), None),
-    (Asked::Sizes(""), None),
-    (Asked::Sizes(".."), None),
-    (Asked::Sizes("a/b"), None),
 ];
 
 #[test]
@@ -536,6 +533,9 @@ const WITH_FILES: &[(Asked, Option<&str>)] = &[
     (Asked::File("orders", 1), Some("1,2\n")),
     (Asked::File("orders", 3), None),
     (Asked::Sizes("missing"), None),
+    (Asked::Sizes(""), None),
+    (Asked::Sizes(".."), None),
+    (Asked::Sizes("a/b"), None),
     (Asked::Sizes("folders"), None),
 ];
 
