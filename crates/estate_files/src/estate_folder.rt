@@ -1,9 +1,8 @@
-use crate::file_system::FileSystem;
-use crate::folders::{has_file, make_folder};
-use crate::path_below::path_below;
+use crate::folders::{make_folder, open_to_write, remove_rests};
+use folder_files::{FileError, FileSystem, path_below};
 use row_core::NoMemory;
 use std::alloc::Global;
-use std::fs::{File, OpenOptions};
+use std::fs::File;
 use std::io;
 use std::process::Process;
 
@@ -19,6 +18,8 @@ pub struct EstateFolder<'a, R> {
     pub out: String,
     process: u32,
     held: Option<File>,
+    has_parts: bool,
+    has_out: bool,
 }
 
 impl<'a, R: FileSystem> EstateFolder<'a, R> {
@@ -35,6 +36,8 @@ impl<'a, R: FileSystem> EstateFolder<'a, R> {
             estate,
             process: std::process::id(process),
             held: None,
+            has_parts: false,
+            has_out: false,
         })
     }
 
@@ -43,16 +46,37 @@ impl<'a, R: FileSystem> EstateFolder<'a, R> {
     pub fn lock(&mut self) -> io::Result<()> {
         if self.held.is_none() {
             make_folder(&self.rt, self.estate.as_str(), self.root.as_str())?;
-            has_file(&self.rt, self.lock.as_str())?;
-            let file = OpenOptions::new()
-                .read(true)
-                .write(true)
-                .create(true)
-                .open(&self.rt, self.lock.as_str())?;
+            let file = open_to_write(&self.rt, self.lock.as_str())?;
             file.try_lock()?;
             self.held = Some(file);
         }
         Ok(())
+    }
+
+    /// Takes the lock, and the first time makes the folder of parts and clears it.
+    pub fn prepare_parts(&mut self) -> Result<(), FileError> {
+        self.lock()?;
+        if !self.has_parts {
+            self.make_clear(self.parts.as_str())?;
+            self.has_parts = true;
+        }
+        Ok(())
+    }
+
+    /// Takes the lock, and the first time makes the folder of commits and clears it.
+    pub fn prepare_out(&mut self) -> Result<(), FileError> {
+        self.lock()?;
+        if !self.has_out {
+            self.make_clear(self.out.as_str())?;
+            self.has_out = true;
+        }
+        Ok(())
+    }
+
+    // Makes a folder here, and removes what other processes left aside in it.
+    fn make_clear(&self, path: &str) -> Result<(), FileError> {
+        make_folder(&self.rt, path, self.estate.as_str())?;
+        remove_rests(&self.rt, path)
     }
 
     /// The path of a name in one of the folders.

@@ -6,10 +6,9 @@ ghost use Rattle.estate_files.specs.Worlds.{counted_world};
 use crate::estate_folder::EstateFolder;
 use crate::file_log::FileLog;
 use crate::file_shelf::FileShelf;
-use crate::file_sink::{FileSink, committed_job};
-use crate::file_system::FileSystem;
+use crate::file_sink::{commit, committed_job};
 use estate::{Edges, Estate, EstateError, Names, PartName};
-use part_files::FileError;
+use folder_files::{FileError, FileSystem};
 use row_core::{Bytes, NoMemory};
 use std::alloc::Global;
 use std::marker::Model;
@@ -24,7 +23,6 @@ pub struct FileEstate<'a, R> {
     folder: EstateFolder<'a, R>,
     log: FileLog,
     shelf: FileShelf,
-    sink: FileSink,
     log_faults: u64,
     shelf_faults: u64,
     sink_faults: u64,
@@ -53,7 +51,6 @@ impl<'a, R: FileSystem> FileEstate<'a, R> {
             folder: EstateFolder::new(rt, process, alloc, root)?,
             log: FileLog::new(),
             shelf: FileShelf::new(),
-            sink: FileSink::new(),
             log_faults: 0,
             shelf_faults: 0,
             sink_faults: 0,
@@ -145,7 +142,7 @@ impl<'a, R: FileSystem> Estate for FileEstate<'a, R> {
     }
 
     fn sink_commit(&mut self, id: &Bytes, job: &Bytes, text: &Bytes) -> Result<(), EstateError> {
-        match self.sink.commit(&mut self.folder, id, job, text) {
+        match commit(&mut self.folder, id, job, text) {
             Ok(()) => Ok(()),
             Err(error) => Err(counted(&mut self.sink_faults, error)),
         }

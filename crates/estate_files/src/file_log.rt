@@ -1,9 +1,9 @@
 use crate::estate_folder::EstateFolder;
-use crate::file_system::FileSystem;
-use crate::folders::{has_file, sync_folder};
-use part_files::{FileError, bytes_at};
+use crate::folders::{has_file, open_to_write, sync_folder};
+use folder_files::{FileError, FileSystem};
+use part_files::bytes_at;
 use row_core::Bytes;
-use std::fs::{File, OpenOptions};
+use std::fs::File;
 use std::io;
 use std::os::unix::fs::FileExt;
 
@@ -94,12 +94,7 @@ impl FileLog {
 }
 
 fn open_log<R: FileSystem>(folder: &EstateFolder<'_, R>) -> io::Result<File> {
-    has_file(&folder.rt, folder.log.as_str())?;
-    let file = OpenOptions::new()
-        .read(true)
-        .write(true)
-        .create(true)
-        .open(&folder.rt, folder.log.as_str())?;
+    let file = open_to_write(&folder.rt, folder.log.as_str())?;
     sync_folder(&folder.rt, folder.estate.as_str())?;
     Ok(file)
 }

@@ -1,13 +1,12 @@
 ghost use Rattle.std.specs.Prelude.{◌≡◌, ◌≤◌, None, IfOk};
 ghost use Rattle.estate.specs.Changes.{Rose};
 
-use crate::entries::names_in;
 use crate::estate_folder::EstateFolder;
-use crate::file_system::FileSystem;
-use crate::folders::{make_folder, remove_any, remove_rests};
+use crate::folders::remove_any;
 use crate::open_part::OpenPart;
 use estate::{Edges, Names, PartName};
-use part_files::{FileError, part_bytes, part_named, part_text};
+use folder_files::{FileError, FileSystem, names_in};
+use part_files::{part_bytes, part_named, part_text};
 use row_core::Bytes;
 use std::fs::{File, Metadata, OpenFile};
 use std::io::Write;
@@ -18,7 +17,6 @@ use std::{fs, io};
 #[derive(Drop)]
 pub struct FileShelf {
     open: Option<OpenPart>,
-    is_ready: bool,
     // How many parts were there as far as these calls have seen.
     seen: u64,
 }
@@ -27,7 +25,6 @@ impl FileShelf {
     pub fn new() -> Self {
         FileShelf {
             open: None,
-            is_ready: false,
             seen: 0,
         }
     }
@@ -44,7 +41,7 @@ impl FileShelf {
         let text = part_text(folder.rt.1, name)?;
         let place = folder.place(folder.parts.as_str(), text.as_str())?;
         let aside = folder.aside(folder.parts.as_str(), text.as_str())?;
-        self.prepare(folder)?;
+        folder.prepare_parts()?;
         if write_part(&folder.rt, aside.as_str(), place.as_str(), &bytes).is_err() {
             let _ = remove_any(&folder.rt, aside.as_str());
             return Err(FileError::Failed);
@@ -116,20 +113,6 @@ impl FileShelf {
         }
         self.seen = seen;
         Ok(names)
-    }
-
-    // Makes the folder and clears it, at the first call that writes.
-    fn prepare<R: FileSystem>(
-        &mut self,
-        folder: &mut EstateFolder<'_, R>,
-    ) -> Result<(), FileError> {
-        folder.lock()?;
-        if !self.is_ready {
-            make_folder(&folder.rt, folder.parts.as_str(), folder.estate.as_str())?;
-            remove_rests(&folder.rt, folder.parts.as_str())?;
-            self.is_ready = true;
-        }
-        Ok(())
     }
 }
 

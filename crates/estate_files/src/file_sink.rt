@@ -1,68 +1,39 @@
 use crate::estate_folder::EstateFolder;
-use crate::file_name::file_name;
-use crate::file_system::FileSystem;
-use crate::folders::{has_file, has_folder, make_folder, remove_any, remove_rests, sync_folder};
-use part_files::FileError;
+use crate::folders::{has_file, has_folder, remove_any, sync_folder};
+use folder_files::{FileError, FileSystem, file_name};
 use row_core::Bytes;
 use std::fs::{File, OpenFile};
 use std::io::Write;
 use std::{fs, io};
 
-/// The sink as a folder with one folder a commit: the job's text in `job.json`, and the committed text in
-/// `rows.csv`.
-#[derive(Drop)]
-pub struct FileSink {
-    is_ready: bool,
-}
-
-impl FileSink {
-    pub fn new() -> Self {
-        FileSink { is_ready: false }
+/// Commits: a folder with the job's text in `job.json` and the committed text in `rows.csv`. Both are
+/// written aside and synced, and the folder gets its place by one rename, which is made last. An id
+/// that stands already is refused: no commit takes another's place.
+pub fn commit<R: FileSystem>(
+    folder: &mut EstateFolder<'_, R>,
+    id: &Bytes,
+    job: &Bytes,
+    text: &Bytes,
+) -> Result<(), FileError> {
+    let id = file_name(id)?;
+    let place = folder.place(folder.out.as_str(), id)?;
+    let aside = folder.aside(folder.out.as_str(), id)?;
+    let job_path = folder.place(aside.as_str(), "job.json")?;
+    let text_path = folder.place(aside.as_str(), "rows.csv")?;
+    folder.prepare_out()?;
+    let rt = &folder.rt;
+    let written = write_files(
+        rt,
+        aside.as_str(),
+        (job_path.as_str(), job),
+        (text_path.as_str(), text),
+    )
+    .and_then(|()| give_place(rt, aside.as_str(), place.as_str(), folder.out.as_str()));
+    if written.is_err() {
+        let _ = remove_any(rt, aside.as_str());
+        return Err(FileError::Failed);
     }
-
-    /// Commits: both files are written aside and synced, and the folder gets its place by one rename,
-    /// which is made last. An id that stands already is refused: no commit takes another's place.
-    pub fn commit<R: FileSystem>(
-        &mut self,
-        folder: &mut EstateFolder<'_, R>,
-        id: &Bytes,
-        job: &Bytes,
-        text: &Bytes,
-    ) -> Result<(), FileError> {
-        let id = file_name(id)?;
-        let place = folder.place(folder.out.as_str(), id)?;
-        let aside = folder.aside(folder.out.as_str(), id)?;
-        let job_path = folder.place(aside.as_str(), "job.json")?;
-        let text_path = folder.place(aside.as_str(), "rows.csv")?;
-        self.prepare(folder)?;
-        let rt = &folder.rt;
-        let written = write_files(
-            rt,
-            aside.as_str(),
-            (job_path.as_str(), job),
-            (text_path.as_str(), text),
-        )
-        .and_then(|()| give_place(rt, aside.as_str(), place.as_str(), folder.out.as_str()));
-        if written.is_err() {
-            let _ = remove_any(rt, aside.as_str());
-            return Err(FileError::Failed);
-        }
-        Ok(())
-    }
-
-    // Makes the folder and clears it, at the first call that writes.
-    fn prepare<R: FileSystem>(
-        &mut self,
-        folder: &mut EstateFolder<'_, R>,
-    ) -> Result<(), FileError> {
-        folder.lock()?;
-        if !self.is_ready {
-            make_folder(&folder.rt, folder.out.as_str(), folder.estate.as_str())?;
-            remove_rests(&folder.rt, folder.out.as_str())?;
-            self.is_ready = true;
-        }
-        Ok(())
-    }
+    Ok(())
 }
 
 /// The job's text of an id's commit, if there is one. A folder that lacks one of the two files is an

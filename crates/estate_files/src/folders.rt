@@ -1,8 +1,5 @@
-use crate::entries::names_in;
-use crate::file_system::FileSystem;
-use crate::path_below::path_below;
-use part_files::FileError;
-use std::fs::OpenFile;
+use folder_files::{FileError, FileSystem, names_in, path_below};
+use std::fs::{File, OpenFile, OpenOptions};
 use std::{fs, io};
 
 /// Makes a folder, unless it is there, and makes its place in the folder above last: a process that made
@@ -27,7 +24,7 @@ fn is_folder<R: FileSystem>(rt: &R, path: &str) -> io::Result<()> {
 
 /// Makes the entries of a folder last.
 pub fn sync_folder<R: FileSystem>(rt: &R, path: &str) -> io::Result<()> {
-    fs::File::open(rt, path)?.sync_all()
+    File::open(rt, path)?.sync_all()
 }
 
 /// Whether a file stands at the path: false where nothing does, and an error where anything else does, as
@@ -39,6 +36,17 @@ pub fn has_file<R: FileSystem>(rt: &R, path: &str) -> io::Result<bool> {
         Err(error) if error.kind() == io::ErrorKind::NotFound => Ok(false),
         Err(error) => Err(error),
     }
+}
+
+/// Opens a file to read and write, which is made where there is none. Anything else at its path is an
+/// error.
+pub fn open_to_write<R: FileSystem>(rt: &R, path: &str) -> io::Result<File> {
+    has_file(rt, path)?;
+    OpenOptions::new()
+        .read(true)
+        .write(true)
+        .create(true)
+        .open(rt, path)
 }
 
 /// Whether a folder stands at the path: false where nothing does, and an error where anything else does.

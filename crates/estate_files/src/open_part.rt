@@ -1,5 +1,6 @@
 use estate::PartName;
-use part_files::{FileError, PartFile};
+use folder_files::FileError;
+use part_files::PartFile;
 use row_core::Bytes;
 use std::alloc::Global;
 use std::fs::{File, Metadata};

@@ -1,10 +1,10 @@
 ghost use Rattle.std.specs.Prelude.{◌≡◌, ◌^◌, ◌<◌, ◌≤◌, ◌++◌, length, IfOk, OnOk, IsErrOf};
 ghost use Rattle.std.specs.Int.{w32, to_be_bytes};
-ghost use Rattle.part_files.specs.declared.file_error.FileError.TheVariants.{Failed};
+ghost use Rattle.folder_files.specs.declared.file_error.FileError.TheVariants.{Failed};
 ghost use Rattle.part_files.specs.Parts.{cell_file, edge_file, part_file, IsTooMany, IsTooWide};
 
-use crate::file_error::FileError;
 use estate::Edges;
+use folder_files::FileError;
 use row_core::{Bytes, NoMemory};
 use std::alloc::Global;
 

@@ -4,7 +4,6 @@
 
 mod cell_place;
 mod encoding;
-mod file_error;
 mod naming;
 mod part_file;
 mod part_header;
@@ -12,7 +11,6 @@ mod reading;
 mod source;
 
 pub use encoding::part_bytes;
-pub use file_error::FileError;
 pub use naming::{part_named, part_text};
 pub use part_file::PartFile;
 pub use reading::bytes_at;

@@ -4,10 +4,10 @@ ghost use Rattle.part_files.specs.Parts.{part_file, HasCell};
 ghost use Rattle.part_files.specs.Sources.{Told, cells_at};
 
 use crate::cell_place::CellPlace;
-use crate::file_error::FileError;
 use crate::part_header::cell_places;
 use crate::reading::bytes_at;
 use crate::source::Source;
+use folder_files::FileError;
 use row_core::Bytes;
 use std::alloc::Global;
 use std::marker::Model;

@@ -5,8 +5,8 @@ ghost use Rattle.part_files.specs.Parts.{cell_file, edge_file, part_file};
 ghost use Rattle.part_files.specs.Sources.{Told, Stands, bytes_from, cells_at};
 
 use crate::cell_place::CellPlace;
-use crate::file_error::FileError;
 use crate::source::Source;
+use folder_files::FileError;
 use std::alloc::Global;
 
 /// Where the cells of a part's file stand, edge by edge. A file that has not the form of a part's, up to

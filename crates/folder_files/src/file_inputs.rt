@@ -2,11 +2,11 @@ ghost use Rattle.std.specs.Prelude.{◌≡◌, ◌⊎◌, ◌≤◌, false, [], 
 ghost use Rattle.estate.specs.Changes.{Rose};
 
 use crate::entries::sorted_names;
-use crate::file_name::file_name;
+use crate::file_error::FileError;
 use crate::file_system::FileSystem;
-use crate::path_below::path_below;
+use crate::naming::file_name;
+use crate::paths::path_below;
 use estate::{InputError, Inputs, Sizes};
-use part_files::FileError;
 use row_core::{Bytes, NoMemory};
 use std::alloc::Global;
 use std::marker::Model;

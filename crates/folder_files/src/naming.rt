@@ -1,4 +1,4 @@
-use part_files::FileError;
+use crate::file_error::FileError;
 use row_core::Bytes;
 
 /// A name that stands for one file or folder below another, and for nothing else. One that is empty, is

@@ -1,5 +1,5 @@
+use crate::file_error::FileError;
 use crate::file_system::FileSystem;
-use part_files::FileError;
 use std::alloc::Global;
 use std::fs::DirEntry;
 use std::{fs, io};

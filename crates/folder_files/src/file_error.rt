@@ -1,5 +1,5 @@
 ghost use Rattle.std.specs.Prelude.{◌≡◌};
-ghost use Rattle.part_files.specs.declared.file_error.FileError.TheVariants.{NoMemory};
+ghost use Rattle.folder_files.specs.declared.file_error.FileError.TheVariants.{NoMemory};
 
 use std::alloc::{AllocError, AllocFailed};
 use std::io;
