@@ -15,7 +15,5 @@ pub use Rattle.graph_model.proofs.Making.{keeps_made}
 pub use Rattle.graph_model.proofs.Same.{SameNode, SameInput, inputs_edges-same, maker-set, maker-push}
 pub use Rattle.graph_model.proofs.Winners.{KeepsReads, same_count, same_node, edges-same, in_range, at_each, reads_at, put-keeps, put-same, put-other, same_sub, cases_sub, without-keeps, without-was, without-other, without-gone}
 pub use Rattle.graph_model.proofs.Steps.{valid_opened, valid_reset, valid_same, valid_won}
--- ---- what runs again
-pub use Rattle.graph_model.proofs.Closing.{is_closure}
 -- ---- items of lists
 pub use Rattle.graph_model.proofs.Items.{get_or-map, in_map, in_nothing, in_one, none_is_some, some_is}

@@ -1,8 +1,6 @@
 mod Apart
-mod Closing
 mod Deciding
 mod Examples
-mod Finding
 mod Folds
 mod Items
 pub mod Laws

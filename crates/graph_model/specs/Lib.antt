@@ -6,5 +6,4 @@ pub mod Folds
 pub mod Valid
 pub mod Links
 pub mod Reading
-pub mod Reaching
 pub mod Indexes

@@ -1,5 +1,4 @@
 ghost use Rattle.graph_model.specs.Folds.{PrefixLaw};
-ghost use Rattle.graph_model.specs.Indexes.{ClosureLaw};
 ghost use Rattle.graph_model.specs.Links.{LinkLaw, SingleLaw};
 ghost use Rattle.graph_model.specs.Reading.{ReadLaw};
 ghost use Rattle.graph_model.specs.Valid.{ValidLaw};
@@ -31,10 +30,4 @@ pub fn nodes_are_in_one_vertex()
 /// winner of that subtask has there.
 pub fn winners_rows_are_read()
     ensures { ReadLaw }
-{}
-
-/// Of all finished subtasks those that the first ones lead to are the closure: those that run again
-/// where parts are gone.
-pub fn marked_are_closure()
-    ensures { ClosureLaw }
 {}

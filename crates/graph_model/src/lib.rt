@@ -8,10 +8,7 @@ mod event;
 mod events;
 mod file_sizes;
 mod graph_laws;
-mod leads;
 mod made_vertex;
-mod reaching;
-mod search;
 mod sub;
 mod subs;
 mod subtask_state;
@@ -23,13 +20,10 @@ pub use event::Event;
 pub use events::Events;
 pub use file_sizes::FileSizes;
 pub use graph_laws::{
-    folds_are_valid, inputs_are_linked, marked_are_closure, nodes_are_in_one_vertex,
-    prefixes_are_legal, winners_rows_are_read,
+    folds_are_valid, inputs_are_linked, nodes_are_in_one_vertex, prefixes_are_legal,
+    winners_rows_are_read,
 };
-pub use leads::Leads;
 pub use made_vertex::MadeVertex;
-pub use reaching::reached;
-use search::Search;
 pub use sub::Sub;
 pub use subs::Subs;
 pub use subtask_state::SubtaskState;

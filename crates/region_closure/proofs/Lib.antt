@@ -1,0 +1,7 @@
+mod Awaiting
+mod Closing
+mod Marking
+mod Noting
+mod Picking
+mod Placing
+mod Same
