@@ -1,0 +1,6 @@
+use Rattle.event_graph.proofs.Closed.{own_parts}
+use Rattle.event_graph.proofs.Jobs.{given_of, state_of}
+use Rattle.event_graph.proofs.event_graph.EventGraph.closure.Goals as goal
+
+pub closure_of-requires-clause-own : goal.closure_of-requires-clause-own
+closure_of-requires-clause-own c = own_parts (given_of c.self.inside) (state_of c.self.inside) c.self.invariant.valid

@@ -1,0 +1,18 @@
+use Rattle.std.proofs.Common.{Some}
+use Rattle.graph_model.specs.States.{Given, State}
+use Rattle.graph_model.proofs.Laws.{valid_same}
+use Rattle.event_graph.proofs.event_graph.EventGraph.ended.Goals as goal
+
+pub invariant_of-self : goal.invariant_of-self
+invariant_of-self c =
+    let g = c.self.inside in
+    let kept = c.self.invariant in
+    let given : Given = record { nodes = g.plan; settings = g.settings; files = g.files } in
+    let state : State = record { epoch = g.epoch; vertices = g.vertices; widened = g.widened; dones = g.dones.items; troubles = g.troubles; ended = g.ended } in
+    record {
+      faultless = kept.faultless;
+      few = kept.few;
+      valid = valid_same given state g.troubles (Some c.args.failed) kept.valid;
+      numbered = kept.numbered;
+      undecided_is = kept.undecided_is;
+    }

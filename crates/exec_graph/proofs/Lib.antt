@@ -1,0 +1,5 @@
+mod Readers
+mod Counting
+mod Refreshed
+mod Few
+mod Keeping

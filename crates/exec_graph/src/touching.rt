@@ -1,0 +1,34 @@
+ghost use Rattle.std.specs.Prelude.{◌≡◌, ◌<◌, ◌∷◌, [], All, IfOk, length, map};
+ghost use Rattle.graph_model.specs.Indexes.{sub_at};
+ghost use Rattle.ready_subtasks.specs.Touches.{AreTouched};
+
+use event_graph::EventGraph;
+use graph_model::Sub;
+use row_core::NoMemory;
+use std::alloc::Global;
+
+/// A subtask and its readers; none where it isn't decided.
+pub fn touched_by(alloc: Global, job: &EventGraph, sub: Sub) -> Result<Vec<Sub>, NoMemory>
+    ensures { IfOk result (λ touched.
+        AreTouched job.now.state.vertices (sub ∷ []) touched.items) }
+{
+    let numbers = job.numbers();
+    if !job.has(sub) {
+        return Ok(Vec::new(alloc));
+    }
+    let readers = numbers.tasks().readers_of(alloc, numbers.number(sub))?;
+    let mut touched = subs_at(alloc, numbers.subs(), readers.as_slice())?;
+    touched.push(sub)?;
+    Ok(touched)
+}
+
+fn subs_at(alloc: Global, subs: &[Sub], numbers: &[usize]) -> Result<Vec<Sub>, NoMemory>
+    requires { All (λ n. n < length subs.now) numbers.now }
+    ensures { IfOk result (λ found. found.items ≡ map (sub_at subs.now) numbers.now) }
+{
+    let mut found = Vec::with_capacity(alloc, numbers.len())?;
+    for place in 0..numbers.len() {
+        found.push(subs[numbers[place]])?;
+    }
+    Ok(found)
+}

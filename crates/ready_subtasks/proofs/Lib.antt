@@ -1,0 +1,5 @@
+mod Lists
+mod Marking
+mod Changing
+mod Feeding
+pub mod Laws
