@@ -1,4 +1,6 @@
-mod Listing
-mod Pairing
-mod Stops
-mod Tags
+mod Coming
+mod Folding
+mod Leading
+mod Once
+mod Refusing
+mod Starting

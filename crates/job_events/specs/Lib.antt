@@ -1,4 +1,4 @@
-pub mod Spelling
-pub mod Reading
-pub mod Fronts
-pub mod Answers
+pub mod Applied
+pub mod Folded
+pub mod Logs
+pub mod Replays

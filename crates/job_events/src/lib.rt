@@ -1,26 +1,22 @@
-//! The spelling of events on the log: each event is written in one way, and whatever is read is an
-//! event that is spelled so. docs/FORMATS.md states the format.
+//! The events of a job on its log: what each event changes in the job's graph, and what the blocks
+//! of a whole log come to.
 #![tactic(auto)]
 
-mod assignments;
-mod decoding;
-mod encoding;
-mod event_error;
-mod event_reading;
-mod lists;
-mod marks;
-mod numbers;
-mod pairs;
-mod parts;
-mod readable;
-mod reading;
-mod sizes;
-mod text;
-mod writable;
-mod writing;
+mod accepting;
+mod applying;
+mod log_laws;
+mod log_state;
+mod replay_error;
+mod replayed_log;
+mod replaying;
+mod stepping;
 
-pub use decoding::{decode, one_spelling};
-pub use encoding::encode;
-pub use event_error::EventError;
-use readable::Readable;
-use writable::Writable;
+use accepting::accepted_job;
+pub use applying::apply;
+pub use event_codec::{EventError, decode, encode};
+pub use log_laws::started_jobs_fold;
+pub use log_state::LogState;
+pub use replay_error::ReplayError;
+pub use replayed_log::ReplayedLog;
+pub use replaying::{first_fault, replay};
+use stepping::next_state;

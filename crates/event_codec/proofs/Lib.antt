@@ -1,0 +1,6 @@
+mod Listing
+mod Pairing
+mod Short
+mod Stops
+mod Tags
+pub mod Laws

@@ -1,9 +1,0 @@
-use Rattle.job_events.proofs.Stops.{events_same}
-use Rattle.job_events.proofs.Tags.{event_free}
-use Rattle.job_events.proofs.decoding.one_spelling.Goals as goal
-
-pub returns-clause-events : goal.returns-clause-events
-returns-clause-events c = λ a b fit_a fit_b same. events_same a b fit_a fit_b same
-
-pub returns-clause-event : goal.returns-clause-event
-returns-clause-event c = λ a b x y fit_a fit_b same. event_free.front a b x y fit_a fit_b same
