@@ -1,5 +1,5 @@
 -- What a task may give goes by the bag of its chain's rows.
-use Rattle.std.proofs.Common.{◌≡◌, ℕ, ◌+◌, arith, List, [], ◌∷◌, length, refl, sym, ◌∙◌, ap, subst, get_or}
+use Rattle.std.proofs.Common.{◌≡◌, ℕ, arith, List, [], ◌∷◌, length, refl, sym, ◌∙◌, subst, get_or}
 use Rattle.row_core.specs.Bags.{SameBag}
 use Rattle.bag_laws.specs.Rows.{OneRow as Row}
 use Rattle.bag_laws.proofs.Laws.{same_on, total, total-same}

@@ -1,2 +1,3 @@
 mod ByBags
+mod Sharing
 pub mod Laws

@@ -3,5 +3,7 @@
 #![tactic(auto)]
 
 mod bags;
+mod keys;
 
 pub use bags::tasks_go_by_bags;
+pub use keys::keys_share_cells;

@@ -1,0 +1,6 @@
+mod Alike
+mod Inputs
+mod Heads
+mod Chains
+mod Cuts
+mod Parts

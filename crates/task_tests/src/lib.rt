@@ -1,0 +1,5 @@
+//! Tests of what an attempt does.
+#![tactic(auto)]
+
+#[cfg(test)]
+mod task_body_tests;
