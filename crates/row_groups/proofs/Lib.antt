@@ -1,0 +1,5 @@
+mod Accumulating
+mod Grouping
+mod Holding
+mod Keys
+mod Writing

@@ -1,0 +1,3 @@
+pub mod Accumulators
+pub mod Held
+pub mod Written

@@ -1,0 +1,4 @@
+mod Chains
+pub mod Laws
+mod Pieces
+mod Stepping

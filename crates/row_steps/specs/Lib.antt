@@ -1,0 +1,3 @@
+pub mod Chained
+pub mod Pieces
+pub mod Shown
