@@ -1,0 +1,5 @@
+pub mod Growth
+pub mod Standing
+pub mod Goes
+pub mod Laws
+pub mod Recovered

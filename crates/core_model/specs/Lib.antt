@@ -1,0 +1,12 @@
+pub mod Cores
+pub mod Slowness
+pub mod Arrivals
+pub mod Moves
+pub mod Rules
+pub mod Turns
+pub mod Licensed
+pub mod Reopening
+pub mod KeptWork
+pub mod Laws
+pub mod Calls
+pub mod Nothing

@@ -1,0 +1,4 @@
+mod Advancing
+mod Counting
+pub mod Laws
+mod Working

@@ -1,0 +1,7 @@
+mod Deciding
+mod Examples
+pub mod Laws
+mod Logging
+mod Reading
+mod Righting
+mod Standing
