@@ -1,6 +1,7 @@
 mod Cells
 mod Cuts
 mod Digits
+mod Fitting
 mod Records
 mod Rows
 mod Slices

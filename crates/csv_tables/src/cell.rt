@@ -1,29 +1,30 @@
-ghost use Rattle.std.specs.Prelude.{◌≡◌, ◌+◌, ◌*◌, ◌^◌, ◌<◌, IfOk};
+ghost use Rattle.std.specs.Prelude.{◌≡◌, ◌+◌, ◌*◌, ◌^◌, ◌<◌};
 ghost use Rattle.std.specs.Option.{SomeIff};
 ghost use Rattle.plan_model.specs.Tables.{cell_value, int_cell, digits_cell, signed_value};
+ghost use Rattle.row_view.specs.Views.{seen};
 
 use plan_model::Kind;
-use row_core::{Bytes, NoMemory, TEXT_LIMIT, Value};
-use std::alloc::Global;
+use row_core::TEXT_LIMIT;
+use row_view::ValueRef;
 
-/// The value of a cell.
-pub fn read_cell(alloc: Global, kind: Kind, cell: &[u8]) -> Result<Value, NoMemory>
-    ensures { IfOk result (λ value. value ≡ cell_value kind cell.now) }
+/// The value of a cell, where it stands.
+pub fn read_cell(kind: Kind, cell: &[u8]) -> ValueRef<'_>
+    ensures { seen result ≡ cell_value kind cell.now }
 {
     match kind {
-        Kind::IntKind => Ok(read_int(cell)),
+        Kind::IntKind => read_int(cell),
         Kind::TextKind => {
             if cell.len() > TEXT_LIMIT {
-                return Ok(Value::Null);
+                return ValueRef::Null;
             }
-            Ok(Value::Text(Bytes::from_slice(alloc, cell)?))
+            ValueRef::Text(cell)
         }
     }
 }
 
 // A number behind a minus sign or without one.
-fn read_int(cell: &[u8]) -> Value
-    ensures { result ≡ int_cell cell.now }
+fn read_int<'a>(cell: &[u8]) -> ValueRef<'a>
+    ensures { seen result ≡ int_cell cell.now }
 {
     match cell {
         [b'-', digits @ ..] => read_digits(true, digits),
@@ -32,20 +33,20 @@ fn read_int(cell: &[u8]) -> Value
 }
 
 // A number of digits alone. Null where it passes 64 bits on the way, whatever follows.
-fn read_digits(negative: bool, digits: &[u8]) -> Value
-    ensures { result ≡ digits_cell negative digits.now }
+fn read_digits<'a>(negative: bool, digits: &[u8]) -> ValueRef<'a>
+    ensures { seen result ≡ digits_cell negative digits.now }
 {
     if digits.is_empty() {
-        return Value::Null;
+        return ValueRef::Null;
     }
     let mut number = 0u64;
     for digit in digits {
         if !digit.is_ascii_digit() {
-            return Value::Null;
+            return ValueRef::Null;
         }
         match with_digit(number, *digit - b'0') {
             Some(larger) => number = larger,
-            None => return Value::Null,
+            None => return ValueRef::Null,
         }
     }
     signed(negative, number)
@@ -59,14 +60,14 @@ fn with_digit(number: u64, digit: u8) -> Option<u64>
 }
 
 // The number below zero or above, if it has at most 64 bits.
-fn signed(negative: bool, number: u64) -> Value
-    ensures { result ≡ signed_value negative number }
+fn signed<'a>(negative: bool, number: u64) -> ValueRef<'a>
+    ensures { seen result ≡ signed_value negative number }
 {
     if negative && number == 1 << 63 {
-        return Value::Int(i64::MIN);
+        return ValueRef::Int(i64::MIN);
     }
     match i64::try_from(number) {
-        Ok(number) => Value::Int(if negative { -number } else { number }),
-        Err(_) => Value::Null,
+        Ok(number) => ValueRef::Int(if negative { -number } else { number }),
+        Err(_) => ValueRef::Null,
     }
 }

@@ -1,13 +1,14 @@
-ghost use Rattle.std.specs.Prelude.{◌≡◌, IfOk, true};
-ghost use Rattle.csv.specs.Reading.{error_kind, stops_reader};
-ghost use Rattle.csv.specs.Records.{field_at, fields_of};
-ghost use Rattle.csv_tables.specs.Reading.{cell_or_null};
+ghost use Rattle.std.specs.Prelude.{◌≡◌, IfOk};
+ghost use Rattle.csv.specs.Records.{fields_of};
 ghost use Rattle.plan_model.specs.Tables.{row_of, table_rows};
+ghost use Rattle.row_view.specs.Views.{seen};
 
-use crate::cell::read_cell;
-use csv::{ByteRecord, Error, ErrorKind, ReaderBuilder};
+use crate::reading::{read_record, record_reader};
+use crate::record::read_field;
+use csv::ByteRecord;
 use plan_model::{Kind, Kinds};
 use row_core::{Bytes, NoMemory, Row, Rows, Value};
+use row_view::ValueRef;
 use std::alloc::{AllocError, Global};
 
 /// The rows of a table's file, each with a value for each column. Any bytes are a table, ragged
@@ -22,34 +23,17 @@ pub fn read_table(alloc: Global, bytes: &Bytes, columns: &Kinds) -> Result<Rows,
 fn read_rows(alloc: Global, text: &[u8], kinds: &[Kind]) -> Result<Rows, NoMemory>
     ensures { IfOk result (λ rows. rows ≡ table_rows kinds.now text.now) }
 {
-    let mut reader = ReaderBuilder::new()
-        .has_headers(false)
-        .flexible(true)
-        .from_reader(alloc, text);
+    let mut reader = record_reader(alloc, text);
     let mut record = ByteRecord::new(alloc);
     let mut rows = Rows::new(alloc);
     for _ in 0..u64::MAX {
-        match reader.read_byte_record(&mut record) {
-            Ok(true) => rows.push(read_row(alloc, &record, kinds)?)?,
-            Ok(false) => return Ok(rows),
-            Err(error) => return Err(no_memory(error)),
+        let found = read_record(&mut reader, &mut record)?;
+        if !found {
+            return Ok(rows);
         }
+        rows.push(read_row(alloc, &record, kinds)?)?;
     }
     Err(AllocError)
-}
-
-// The answer to an error that is no refusal of a record. A slice is read without fail, so what
-// stops its reader is want of memory.
-fn no_memory(error: Error) -> NoMemory
-    requires { stops_reader (error_kind error) ≡ true }
-{
-    match error.into_kind() {
-        ErrorKind::Io(_) | ErrorKind::OutOfMemory => AllocError,
-        ErrorKind::Utf8 { .. }
-        | ErrorKind::UnequalLengths { .. }
-        | ErrorKind::Serialize(_)
-        | ErrorKind::Deserialize { .. } => unreachable!(),
-    }
 }
 
 // A record as a row.
@@ -58,23 +42,18 @@ fn read_row(alloc: Global, cells: &ByteRecord, kinds: &[Kind]) -> Result<Row, No
 {
     let mut row = Row::with_capacity(alloc, kinds.len())?;
     for (place, kind) in kinds.iter().enumerate() {
-        row.push(read_field(alloc, cells, place, *kind)?)?;
+        row.push(owned(alloc, read_field(cells, place, *kind))?)?;
     }
     Ok(row)
 }
 
-// The value of a record's cell, or Null where the record ends before it.
-fn read_field(
-    alloc: Global,
-    cells: &ByteRecord,
-    place: usize,
-    kind: Kind,
-) -> Result<Value, NoMemory>
-    ensures { IfOk result
-        (λ value. value ≡ cell_or_null kind (field_at (fields_of cells.now) place)) }
+// The value that is seen, as one of its own.
+fn owned(alloc: Global, value: ValueRef) -> Result<Value, NoMemory>
+    ensures { IfOk result (λ made. made ≡ seen value.entry) }
 {
-    match cells.get(place) {
-        Some(cell) => read_cell(alloc, kind, cell),
-        None => Ok(Value::Null),
+    match value {
+        ValueRef::Null => Ok(Value::Null),
+        ValueRef::Int(number) => Ok(Value::Int(number)),
+        ValueRef::Text(text) => Ok(Value::Text(Bytes::from_slice(alloc, text)?)),
     }
 }

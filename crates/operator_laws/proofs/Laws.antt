@@ -13,4 +13,4 @@ pub use Rattle.operator_laws.proofs.Joins.{left_none, left_sum, left_each, right
 pub use Rattle.operator_laws.proofs.NodeBags.{bags_same}
 pub use Rattle.operator_laws.proofs.Sections.{lines_same, section_same, texts_same}
 -- ---- values within their limits
-pub use Rattle.operator_laws.proofs.Limits.{applied_fits, joined_fits, node_fits, plan_fits, rows_within}
+pub use Rattle.operator_laws.proofs.Limits.{applied_fits, joined_fits, node_fits, plan_fits, record_fits, rows_within}

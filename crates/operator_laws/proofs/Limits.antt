@@ -309,7 +309,8 @@ cell_fits : (of : Kind) (cell : List ℕ) → ValueFits (cell_value of cell)
 cell_fits IntKind cell = number_fits cell
 cell_fits TextKind cell = text_fits cell
 
-record_fits : (kinds : List Kind) (cells : List (List ℕ)) → RowFits (row_of kinds cells)
+-- a record as a row
+pub record_fits : (kinds : List Kind) (cells : List (List ℕ)) → AllByRecursion ValueFits (row_of kinds cells)
 record_fits [] cells = tt
 record_fits (of ∷ kinds) [] = (tt, record_fits kinds [])
 record_fits (of ∷ kinds) (cell ∷ cells) = (cell_fits of cell, record_fits kinds cells)
