@@ -186,8 +186,9 @@ impl EventGraph {
         self.is_open() && self.complete()
     }
 
-    /// Makes the next vertex, of a chain whose head can be made. It costs a look at each node of
-    /// the plan and at each subtask of the vertices made before.
+    /// Makes the next vertex, of a chain whose head can be made. It costs a look at each node and
+    /// edge of the plan and at each vertex made before, but at none of their subtasks, and for each
+    /// edge into a join at the widenings. A job's text has at most 256 nodes.
     pub fn made(&mut self, vertex: u32, nodes: &NodeList) -> Result<(), GraphError>
         ensures ok { OnOk result (Takes self.old (Made vertex nodes.now) self.new) }
         ensures same { OnErr result (self.new ≡ self.old) }

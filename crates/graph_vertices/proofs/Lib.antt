@@ -1,4 +1,5 @@
 mod Consumers
+mod Counted
 mod Looking
 mod NodeMakers
 mod Next

@@ -3,13 +3,13 @@ use Rattle.std.proofs.Common.{◌≡◌, ℕ, ◌+◌, ◌<◌, ◌≤◌, Bool,
 use Rattle.std.specs.Prelude.{◌⊎◌, if◌then◌else◌, nat_lt}
 use Rattle.std.proofs.lemmas.Bool.{cases_eq, cases_lt}
 use Rattle.std.proofs.lemmas.Bool.Decides.{nat_tests}
-use Rattle.std.proofs.lemmas.List.{length_push, get_or_push, get_or_past, get_or_append_left, get_or-set_same, get_or-set_other}
+use Rattle.std.proofs.lemmas.List.{length-set, length_push, get_or_push, get_or_past, get_or_append_left, get_or-set_same, get_or-set_other}
 use Rattle.std.proofs.lemmas.List.Folds.{position_or_len_push}
 use Rattle.std.proofs.lemmas.List.Sums.{prefix_len-le-length}
 use Rattle.vertex_builder.specs.Chains.{is_among}
 use Rattle.graph_model.specs.declared.made_vertex.MadeVertex.{MadeVertex}
-use Rattle.graph_model.specs.States.{maker}
-use Rattle.graph_model.proofs.Laws.{none_is_some, some_is}
+use Rattle.graph_model.specs.States.{maker, vertex_at}
+use Rattle.graph_model.proofs.Laws.{maker-set, none_is_some, some_is}
 use Rattle.graph_vertices.specs.Makers.{AreMakers, maker_if, noted}
 
 less_yes : (m n : ℕ) → m < n → nat_lt m n ≡ true
@@ -128,3 +128,8 @@ same_push makers n = ⊎_elim
     by : ((length makers ≡ n) ⊎ (length makers ≡ n → ⊥)) → length makers ≤ n → get_or (makers ++ None ∷ []) n None ≡ get_or makers n None
     by (inl is) le = get_or_push makers None None n is ∙ sym (get_or_past makers n None le)
     by (inr ne) le = let long : length (makers ++ None ∷ []) ≡ length makers + 1 = length_push makers None in get_or_past (makers ++ None ∷ []) n None (omega (arith, le, ne, long)) ∙ sym (get_or_past makers n None le)
+
+-- a vertex keeps its nodes
+pub makers_set : (vs : List MadeVertex) (makers : List (Option ℕ)) (v : ℕ) (made : MadeVertex) → made.vertex.nodes ≡ (vertex_at vs v).vertex.nodes → AreMakers vs makers → AreMakers (set vs v made) makers
+makers_set vs makers v made same are node =
+    are node ∙ sym (ap (λ (m : ℕ). if_below m (length (set vs v made))) (maker-set vs v node made same) ∙ ap (if_below (maker vs node)) (length-set vs v made))

@@ -1,3 +1,4 @@
+pub mod Counts
 pub mod Makers
 pub mod Making
 pub mod Widening

@@ -1,13 +1,14 @@
-ghost use Rattle.std.specs.Prelude.{◌≡◌, ◌<◌, ◌^◌, ◌≤◌, ℕ, [], ◌∷◌, ◌++◌, length, set, map, Some, IsTrue, ◌↔◌, OnOk, OnErr, IfSome, IfNone, All};
+ghost use Rattle.std.specs.Prelude.{◌≡◌, ◌<◌, ◌^◌, ◌≤◌, ℕ, [], ◌∷◌, ◌++◌, length, set, map, Some, IsTrue, ◌↔◌, OnOk, OnErr, IfSome, IfNone, All, count_by};
 ghost use Rattle.graph_model.specs.Legal.{HasForm, IsFilled};
 ghost use Rattle.graph_model.specs.States.{put_winner, subtasks_at, vertex_at, winner_name, maker, is_complete, is_decided};
+ghost use Rattle.graph_vertices.specs.Counts.{is_unwon};
 ghost use Rattle.graph_vertices.specs.Makers.{AreMakers};
 ghost use Rattle.graph_vertices.specs.Widening.{IsUnmade};
 ghost use Rattle.graph_vertices.specs.Winning.{IsFirstStale, IsPresent};
 
 use crate::Makers;
 use estate::{PartName, Sizes};
-use graph_model::{MadeVertex, Sub, SubtaskStates, Win};
+use graph_model::{MadeVertex, Sub, SubtaskState, SubtaskStates, Win};
 use row_core::NoMemory;
 use std::alloc::Global;
 use std::marker::Model;
@@ -18,6 +19,7 @@ use vertex_builder::{VertexInput, VertexOutput};
 pub struct MadeVertices {
     items: Vec<MadeVertex>,
     makers: Makers,
+    unwon: Vec<usize>,
 }
 
 impl Model for MadeVertices {
@@ -28,10 +30,12 @@ impl Model for MadeVertices {
 
     ghost view = { λ list. list.items.items };
 
+    ghost use Rattle.graph_vertices.specs.Counts.{AreCounts};
     ghost use Rattle.graph_vertices.specs.Makers.{AreMakers};
 
-    ghost invariant = { λ list.
-        (length list.items.items ≤ 2 ^ 32) × AreMakers list.items.items list.makers };
+    ghost invariant = { λ list. (length list.items.items ≤ 2 ^ 32)
+        × AreMakers list.items.items list.makers
+        × AreCounts list.items.items list.unwon.items };
 }
 
 impl MadeVertices {
@@ -41,6 +45,7 @@ impl MadeVertices {
         MadeVertices {
             items: Vec::new(alloc),
             makers: Makers::new(alloc),
+            unwon: Vec::new(alloc),
         }
     }
 
@@ -56,8 +61,11 @@ impl MadeVertices {
         ensures err { OnErr result (self.new ≡ self.old) }
     {
         let vertex = self.items.len();
+        let unwon = count_unwon(made.subtasks.as_slice());
         self.makers.cover(made.vertex.nodes.as_slice())?;
+        self.unwon.reserve(1)?;
         self.items.push(made)?;
+        self.unwon.push_reserved(unwon);
         self.makers
             .note(self.items[vertex].vertex.nodes.as_slice(), vertex);
         Ok(())
@@ -163,11 +171,12 @@ impl MadeVertices {
     }
 
     /// Whether a vertex is decided and each of its subtasks has a winner; false past the last one.
+    /// It costs the same for every vertex.
     pub fn is_complete_at(&self, vertex: usize) -> bool
         ensures { result ≡ is_complete (vertex_at self.now vertex) }
     {
         match self.items.get(vertex) {
-            Some(made) => made.subtasks.are_won(),
+            Some(made) => !made.subtasks.as_slice().is_empty() && self.unwon[vertex] == 0,
             None => false,
         }
     }
@@ -199,9 +208,13 @@ impl MadeVertices {
         requires subtask { sub.subtask < length (subtasks_at self.old sub.vertex) }
         ensures { self.new ≡ put_winner self.old sub winner }
     {
-        self.items[sub.vertex as usize]
-            .subtasks
-            .set_winner(sub.subtask as usize, winner);
+        let vertex = sub.vertex as usize;
+        let subtask = sub.subtask as usize;
+        let subtasks = self.items[vertex].subtasks.as_slice();
+        let before = usize::from(subtasks[subtask].winner.is_none());
+        let after = usize::from(winner.is_none());
+        self.items[vertex].subtasks.set_winner(subtask, winner);
+        self.unwon[vertex] = self.unwon[vertex] + after - before;
     }
 
     /// Decides a vertex.
@@ -210,8 +223,19 @@ impl MadeVertices {
         ensures { self.new ≡ set self.old vertex
             (record (vertex_at self.old vertex) { subtasks = subtasks }) }
     {
+        self.unwon[vertex] = count_unwon(subtasks.as_slice());
         self.items[vertex].subtasks = subtasks;
     }
+}
+
+// How many of the subtasks have no winner.
+fn count_unwon(subtasks: &[SubtaskState]) -> usize
+    ensures { result ≡ count_by is_unwon subtasks.now }
+{
+    subtasks
+        .iter()
+        .filter(|subtask| subtask.winner.is_none())
+        .count()
 }
 
 /// Whether each of so many nodes is in a decided vertex.

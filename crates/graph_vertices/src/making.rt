@@ -49,9 +49,10 @@ fn complete_nodes(alloc: Global, vertices: &MadeVertices) -> Result<NodeSet, NoM
     ensures { IfOk result (λ set. set ≡ complete_nodes vertices.now) }
 {
     let mut nodes = Vec::new(alloc);
-    for made in vertices.as_slice() {
-        if made.subtasks.are_won() {
-            nodes.extend_from_slice(made.vertex.nodes.as_slice())?;
+    let made = vertices.as_slice();
+    for vertex in 0..made.len() {
+        if vertices.is_complete_at(vertex) {
+            nodes.extend_from_slice(made[vertex].vertex.nodes.as_slice())?;
         }
     }
     Ok(NodeSet::from_vec(nodes))
