@@ -442,9 +442,8 @@ impl EventGraph {
         Ok(Verdict::Win)
     }
 
-    /// Takes the winners of the subtasks that run again where these parts are gone. It costs a look
-    /// at each subtask that is decided and each part, and as much as those that run again have
-    /// readers and producers.
+    /// Takes the winners of the subtasks that run again where these parts are gone. It costs what
+    /// `closure` does.
     pub fn reset(&mut self, gone: &Names, subtasks: &Subs) -> Result<(), GraphError>
         ensures ok { OnOk result (Takes self.old (Reset gone.now subtasks.now) self.new) }
         ensures same { OnErr result (self.new ≡ self.old) }
@@ -461,8 +460,8 @@ impl EventGraph {
     }
 
     /// The subtasks that run again where these parts are gone, in ascending order. It costs a look at
-    /// each subtask that is decided and each part, and as much as those that run again have readers
-    /// and producers.
+    /// each part, as much as those that are gone or run again have readers and producers, and a sort
+    /// of those that run again. No other subtask is looked at.
     pub fn closure(&self, alloc: Global, gone: &Names) -> Result<Subs, NoMemory>
         ensures { IfOk result (λ set. IsClosure self.now.state.vertices gone.now set) }
     {

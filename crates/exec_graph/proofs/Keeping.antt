@@ -1,6 +1,6 @@
 -- What a graph keeps at each event.
 use Rattle.std.proofs.Common.{◌≡◌, ℕ, ◌<◌, ◌≤◌, Bool, true, false, List, [], ◌∷◌, ◌++◌, length, map, get_or, set, Some, Result, Ok, Err, refl, sym, ◌∙◌, ap, subst, arith}
-use Rattle.std.specs.Prelude.{replicate, Contains, OnErr, OnOk}
+use Rattle.std.specs.Prelude.{replicate, All, Contains, OnErr, OnOk}
 use Rattle.std.proofs.lemmas.List.{length_push, length-replicate, length-set}
 use Rattle.std.proofs.lemmas.List.Elements.{Contains-get_or}
 use Rattle.std.proofs.lemmas.Result.{on_err_weaker, on_ok_weaker}
@@ -119,20 +119,18 @@ kept_won old new name inputs sizes touched attempts marks next kept takes are fr
     (λ sub apart. put-other vs own sub (Some win) (λ same. apart (subst (λ (s : Sub). Contains (own ∷ []) s) (sym same) (Contains-get_or (own ∷ []) 0 own (omega arith)))))
     are (subst (λ (l : List MadeVertex). IsRefreshed l attempts touched marks next) is fresh)) fresh.len
 
--- what is touched once winners went was touched before
-touched_before : (vs us : List MadeVertex) (changed touched : List Sub) → KeepsReads vs us → AreTouched us changed touched → AreTouched vs changed touched
-touched_before vs us changed touched keeps are =
-    let counts = same_count vs us keeps in
-    let now : (sub : Sub) → IsDecidedSub vs sub → IsDecidedSub us sub = λ sub lt. subst (λ (n : ℕ). sub.subtask < n) (sym (counts sub.vertex)) lt in
-    record {
-      decided = λ k d lt. let sub = get_or touched k d in subst (λ (n : ℕ). sub.subtask < n) (counts sub.vertex) (are.decided k d lt);
-      own = λ sub lt has. are.own sub (now sub lt) has;
-      readers = λ sub producer lt reads has. are.readers sub producer (now sub lt)
-          (subst (λ (l : List ReadEdge). Contains (map (λ edge. edge.sub) l) producer) (sym (edges-same vs us keeps sub)) reads) has;
-    }
+-- what was touched is decided once winners went
+pub decided_reset : (old new : JobState) (gone : List PartName) (subs touched : List Sub) → Takes old (Reset gone subs) new → AreTouched old.state.vertices subs touched
+    → All (IsDecidedSub new.state.vertices) touched
+decided_reset old new gone subs touched takes are k d lt =
+    let vs = old.state.vertices in
+    let us = without_winners vs subs in
+    let sub = get_or touched k d in
+    subst (λ (l : List MadeVertex). IsDecidedSub l sub) (sym (vertices_after old new (Reset gone subs) takes))
+    (subst (λ (n : ℕ). sub.subtask < n) (sym (same_count vs us (without-keeps vs subs) sub.vertex)) (are.decided k d lt))
 
 pub kept_reset : (old new : JobState) (gone : List PartName) (subs touched : List Sub) (attempts : Attempts) (marks next : List (List Bool))
-    → IsKept old attempts marks → Takes old (Reset gone subs) new → AreTouched new.state.vertices subs touched
+    → IsKept old attempts marks → Takes old (Reset gone subs) new → AreTouched old.state.vertices subs touched
     → IsRefreshed new.state.vertices attempts touched marks next → IsKept new attempts next
 kept_reset old new gone subs touched attempts marks next kept takes are fresh =
     let event : Event = Reset gone subs in
@@ -142,8 +140,7 @@ kept_reset old new gone subs touched attempts marks next kept takes are fresh =
     let keeps = without-keeps vs subs in
     kept_next old new us attempts attempts marks next kept (given_after old new event takes) is
     (readiness_touched vs us attempts subs touched marks next kept.ready keeps (λ sub apart. without-other vs subs sub apart)
-    (touched_before vs us subs touched keeps (subst (λ (l : List MadeVertex). AreTouched l subs touched) is are))
-    (subst (λ (l : List MadeVertex). IsRefreshed l attempts touched marks next) is fresh)) fresh.len
+    are (subst (λ (l : List MadeVertex). IsRefreshed l attempts touched marks next) is fresh)) fresh.len
 
 -- and each subtask has its mark
 pub marked_reset : (old new : JobState) (gone : List PartName) (subs : List Sub) (attempts : Attempts) (marks : List (List Bool)) → IsKept old attempts marks

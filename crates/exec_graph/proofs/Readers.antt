@@ -1,9 +1,9 @@
 -- A subtask and those that read from it, found by numbers.
-use Rattle.std.proofs.Common.{◌≡◌, ℕ, zero, suc, ◌+◌, ◌<◌, Bool, true, false, cond, List, [], ◌∷◌, ◌++◌, length, map, filter, get_or, refl, sym, ◌∙◌, ap, subst, arith, All, ⊎_elim}
-use Rattle.std.specs.Prelude.{◌&&◌, nat_eq, count_by, Contains}
+use Rattle.std.proofs.Common.{◌≡◌, ℕ, zero, suc, ◌+◌, ◌<◌, Bool, true, false, cond, List, [], ◌∷◌, ◌++◌, length, map, filter, get_or, refl, sym, ◌∙◌, ap, subst, arith, All, ⊎_elim, inl, inr}
+use Rattle.std.specs.Prelude.{◌&&◌, ◌⊎◌, nat_eq, count_by, Contains}
 use Rattle.std.proofs.lemmas.Bool.Decides.{nat_tests}
 use Rattle.std.proofs.lemmas.List.{get_or_default, length-map}
-use Rattle.std.proofs.lemmas.List.Elements.{All-filter, All-head, All-map, All-push, All-tail, Contains-append_cases, Contains-append_left, Contains-append_right, Contains-get_or}
+use Rattle.std.proofs.lemmas.List.Elements.{All-contains, All-filter, All-head, All-map, All-push, All-tail, Contains-append_cases, Contains-append_left, Contains-append_right, Contains-get_or}
 use Rattle.std.proofs.lemmas.List.Sums.{sum_by-cons}
 use Rattle.event_graph.specs.Numbers.{IsNumbering, Numbering, number_of, subs_read}
 use Rattle.graph_model.specs.declared.made_vertex.MadeVertex.{MadeVertex}
@@ -159,10 +159,28 @@ module _ (vs : List MadeVertex) (numbering : Numbering) (h : IsNumbering vs numb
       let n = number_of numbering sub in
       subst (λ (s : Sub). Contains numbering.subs s) (h.numbered sub decided).is (Contains-get_or numbering.subs n no_sub (h.numbered sub decided).within)
 
-  -- all that are numbered are touched by whatever changes
-  pub touched_all : (changed : List Sub) → AreTouched vs changed numbering.subs
-  touched_all changed = record {
-    decided = λ k d lt. subst (IsDecidedSub vs) (get_or_default numbering.subs k no_sub d lt) (h.numbers k lt).decided;
-    own = λ sub decided _. numbered_in sub decided;
-    readers = λ sub producer decided _ _. numbered_in sub decided;
-  }
+-- ---- several subtasks
+
+pub touched_nothing : (vs : List MadeVertex) → AreTouched vs [] []
+touched_nothing vs = record {
+  decided = λ k d lt. absurd (omega (arith, lt));
+  own = λ sub decided has. absurd (in_nothing sub has);
+  readers = λ sub producer decided reads has. absurd (in_nothing producer has);
+}
+
+pub touched_both : (vs : List MadeVertex) (front back touched more : List Sub) → AreTouched vs front touched → AreTouched vs back more → AreTouched vs (front ++ back) (touched ++ more)
+touched_both vs front back touched more a b = record {
+  decided = λ k d lt. decided (get_or (touched ++ more) k d) (Contains-append_cases touched more (get_or (touched ++ more) k d) (Contains-get_or (touched ++ more) k d lt));
+  own = λ sub lt has. ⊎_elim
+      (λ (h : Contains front sub). Contains-append_left touched more sub (a.own sub lt h))
+      (λ (h : Contains back sub). Contains-append_right touched more sub (b.own sub lt h))
+      (Contains-append_cases front back sub has);
+  readers = λ sub producer lt reads has. ⊎_elim
+      (λ (h : Contains front producer). Contains-append_left touched more sub (a.readers sub producer lt reads h))
+      (λ (h : Contains back producer). Contains-append_right touched more sub (b.readers sub producer lt reads h))
+      (Contains-append_cases front back producer has);
+}
+  where
+    decided : (sub : Sub) → Contains touched sub ⊎ Contains more sub → IsDecidedSub vs sub
+    decided sub (inl has) = All-contains (IsDecidedSub vs) touched sub a.decided has
+    decided sub (inr has) = All-contains (IsDecidedSub vs) more sub b.decided has

@@ -16,7 +16,7 @@ ghost use Rattle.ready_subtasks.specs.Marks.{IsDecidedSub};
 ghost use Rattle.ready_subtasks.specs.Ready.{ready_subs};
 ghost use Rattle.rect_cover.specs.Covers.{IsCover};
 
-use crate::{refresh, touched_by};
+use crate::{refresh, touched_by, touched_by_all};
 use attempt_names::AttemptNames;
 use estate::{EdgeSizes, Names, PartName};
 use event_graph::{EventGraph, GraphError, Verdict};
@@ -25,6 +25,7 @@ use number_set::NumberSet;
 use plan_model::{GoodPlan, Settings, Side};
 use ready_subtasks::ReadySubs;
 use rect_cover::Assignment;
+use region_closure::closures_are_one;
 use row_core::NoMemory;
 use std::alloc::Global;
 use std::marker::Model;
@@ -144,9 +145,9 @@ impl Graph {
         self.job.widened(node, side)
     }
 
-    /// Takes the winners of the subtasks that run again where these parts are gone. It costs a look
-    /// at each subtask that is decided and each part, and as much as those that run again have
-    /// readers and producers.
+    /// Takes the winners of the subtasks that run again where these parts are gone. It costs a look at
+    /// each part, as much as those that are gone or run again have readers and producers, and a sort
+    /// of those that run again. No other subtask is looked at.
     pub fn reset(&mut self, gone: &Names, subtasks: &Subs) -> Result<(), GraphError>
         ensures ok { OnOk result (Takes self.old.job (Reset gone.now subtasks.now) self.new.job) }
         ensures same { OnErr result (self.new.job ≡ self.old.job) }
@@ -155,9 +156,12 @@ impl Graph {
         ensures not_cover { IfErr result (λ error. error ≢ NotCover) }
         ensures attempts { self.new.attempts ≡ self.old.attempts }
     {
+        closures_are_one();
+        let again = self.job.closure(self.alloc, gone)?;
+        let touched = touched_by_all(self.alloc, &self.job, again.as_slice())?;
         self.job.reset(gone, subtasks)?;
-        let all = self.job.numbers().subs();
-        refresh(&mut self.ready, &self.job, &self.attempts, all);
+        let touched = touched.as_slice();
+        refresh(&mut self.ready, &self.job, &self.attempts, touched);
         Ok(())
     }
 

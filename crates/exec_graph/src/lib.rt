@@ -12,4 +12,4 @@ pub use graph_model::{
     Cause, Event, Events, FileSizes, MadeVertex, Sub, Subs, SubtaskState, SubtaskStates, Win,
 };
 use refreshing::refresh;
-use touching::touched_by;
+use touching::{touched_by, touched_by_all};

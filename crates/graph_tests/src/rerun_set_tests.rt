@@ -1,3 +1,4 @@
+use crate::bounds::are_below;
 use crate::tasks::index_of;
 use reader_index::ReaderIndex;
 use rerun_set::reruns;
@@ -51,13 +52,24 @@ fn runs_again_what_is_wanted(rt: HostRuntime) -> Result<(), Fail> {
 
 fn runs_again(alloc: Global, done: &str, gone: &str, again: &str) -> Result<bool, NoMemory> {
     let tasks = diamond(alloc, done)?;
-    let gone = marks(alloc, gone)?;
-    let awaited = marks(alloc, "3")?;
-    if gone.len() != tasks.count() || awaited.len() != tasks.count() {
+    let gone = numbers(alloc, gone)?;
+    let awaited = awaited(alloc, gone.as_slice())?;
+    let count = tasks.count();
+    if !are_below(gone.as_slice(), count) || !are_below(awaited.as_slice(), count) {
         return Ok(false);
     }
-    let found = reruns(alloc, &tasks, gone.as_slice(), awaited.as_slice())?;
-    Ok(found.as_slice() == marks(alloc, again)?.as_slice())
+    let mut found = reruns(alloc, &tasks, gone.as_slice(), awaited.as_slice())?;
+    found.sort()?;
+    Ok(found.as_slice() == numbers(alloc, again)?.as_slice())
+}
+
+// The result of task 3 alone is awaited from outside.
+fn awaited(alloc: Global, gone: &[usize]) -> Result<Vec<usize>, NoMemory> {
+    let mut awaited = Vec::new(alloc);
+    if gone.contains(&3) {
+        awaited.push(3)?;
+    }
+    Ok(awaited)
 }
 
 // The tasks 1 and 2 read from 0, and 3 reads from both.
@@ -65,22 +77,24 @@ const DIAMOND: &[&[&[usize]]] = &[&[&[]], &[&[0], &[0]], &[&[1, 2]]];
 
 fn diamond(alloc: Global, done: &str) -> Result<ReaderIndex, NoMemory> {
     let mut tasks = index_of(alloc, DIAMOND)?;
-    finish_all(&mut tasks, marks(alloc, done)?.as_slice());
+    finish_all(&mut tasks, numbers(alloc, done)?.as_slice());
     Ok(tasks)
 }
 
-fn finish_all(tasks: &mut ReaderIndex, marks: &[bool]) {
-    for (task, mark) in marks.iter().enumerate() {
-        if *mark && task < tasks.count() && !tasks.is_done(task) {
-            tasks.finish(task);
+fn finish_all(tasks: &mut ReaderIndex, numbers: &[usize]) {
+    for task in numbers {
+        if *task < tasks.count() && !tasks.is_done(*task) {
+            tasks.finish(*task);
         }
     }
 }
 
-fn marks(alloc: Global, tasks: &str) -> Result<Vec<bool>, NoMemory> {
-    let mut marks = Vec::new(alloc);
-    for digit in ['0', '1', '2', '3'] {
-        marks.push(tasks.contains(digit))?;
+fn numbers(alloc: Global, tasks: &str) -> Result<Vec<usize>, NoMemory> {
+    let mut numbers = Vec::new(alloc);
+    for (number, digit) in ['0', '1', '2', '3'].iter().enumerate() {
+        if tasks.contains(*digit) {
+            numbers.push(number)?;
+        }
     }
-    Ok(marks)
+    Ok(numbers)
 }

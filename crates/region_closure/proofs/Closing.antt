@@ -1,6 +1,6 @@
 -- The subtasks whose tasks run again are the closure.
 use Rattle.std.proofs.Common.{◌≡◌, ℕ, suc, ◌<◌, ◌≤◌, Bool, List, [], ◌∷◌, ◌++◌, length, map, filter, get_or, Option, Some, None, refl, sym, ◌∙◌, ap, subst, arith, All, true, false, ◌&&◌, ◌||◌, inl, inr, ⊎_elim}
-use Rattle.std.specs.Prelude.{◌⊎◌, Contains, IsTrue, IsFalse, nat_eq}
+use Rattle.std.specs.Prelude.{◌⊎◌, ◌≢◌, AllPairs, Contains, IsTrue, IsFalse, nat_eq}
 use Rattle.std.specs.Option.{option_map, option_map_or, is_some}
 use Rattle.std.specs.List.{range_with_len}
 use Rattle.std.proofs.lemmas.Bool.{cases_lt, false≢true}
@@ -21,8 +21,8 @@ use Rattle.graph_model.specs.Reads.{ReadEdge, input_edges, inputs_edges, node_ed
 use Rattle.graph_model.specs.States.{is_finished, maker, no_subtask, subtask_at, subtasks_at, vertex_at, winner_at, winner_name}
 use Rattle.graph_model.proofs.Laws.{cases_sub, in_map, none_is_some}
 use Rattle.region_closure.specs.Closing.{AreAwaited, AreGone, AreNumbered, ArePicked, ClosureLaw, HasNumber}
-use Rattle.rerun_set.specs.Reruns.{AreReruns, IsClosed, IsWanted, LeadsTo, Reads, is_on}
-use Rattle.rerun_set.proofs.Laws.{both_left, both_right, from_filter, in_nothing, in_one, into_filter, same_number, same_yes}
+use Rattle.rerun_set.specs.Reruns.{AreReruns, IsClosed, IsWanted, LeadsTo, Reads}
+use Rattle.rerun_set.proofs.Laws.{from_filter, in_nothing, in_one, into_filter, same_number, same_yes}
 
 -- ---- a subtask that reads is decided
 
@@ -73,7 +73,7 @@ gone_finished vs names sub h = named_finished vs sub h.name h.won
 
 -- ---- items
 
-from_map : {X Y : Type 0} (f : X → Y) (xs : List X) (y : Y) → Contains (map f xs) y → (x : X) × Contains xs x × (f x ≡ y)
+pub from_map : {X Y : Type 0} (f : X → Y) (xs : List X) (y : Y) → Contains (map f xs) y → (x : X) × Contains xs x × (f x ≡ y)
 from_map f [] y has = absurd (in_nothing y has)
 from_map {X = X} {Y = Y} f (x ∷ xs) y has = by (from_map f xs y) (Contains-append_cases (f x ∷ []) (map f xs) y has)
   where
@@ -113,14 +113,20 @@ has_in (first ∷ subs) sub has = by (cases_sub sub first) (Contains-append_case
 
 -- ---- the closure
 
-module _ (vs : List MadeVertex) (names : List PartName) (subs : List Sub) (tasks : Tasks) (gone awaited marks : List Bool) (set : List Sub)
-    (numbered : AreNumbered vs subs tasks) (are_gone : AreGone vs names subs gone) (are_awaited : AreAwaited vs subs awaited)
-    (reruns : AreReruns tasks gone awaited marks) (picked : ArePicked subs marks set) where
+module _ (vs : List MadeVertex) (names : List PartName) (subs : List Sub) (tasks : Tasks) (gone awaited again : List ℕ) (set : List Sub)
+    (numbered : AreNumbered vs subs tasks) (are_gone : AreGone vs names subs gone) (are_awaited : AreAwaited vs subs gone awaited)
+    (reruns : AreReruns tasks gone awaited again) (picked : ArePicked subs again set) where
   -- a number that reads is one of the list
   inside : (r p : ℕ) → Reads tasks r p → (r < length subs) × (p < length subs)
   inside r p (read, has, reader, producer) =
       let both = All-contains (IsInside (length subs)) tasks.reads read numbered.inside has in
       (subst (λ (n : ℕ). n < length subs) reader both.reader, subst (λ (n : ℕ). n < length subs) producer both.producer)
+
+  gone_inside : (n : ℕ) → Contains gone n → n < length subs
+  gone_inside n has = All-contains (λ m. m < length subs) gone n are_gone.inside has
+
+  again_inside : (n : ℕ) → Contains again n → n < length subs
+  again_inside n has = subst (λ (k : ℕ). n < k) numbered.len (All-contains (λ m. m < length tasks.done) again n reruns.inside has)
 
   -- by number, and by subtask
   reads_sub : (r p : ℕ) → Reads tasks r p → Contains (reads_from vs (sub_at subs r)) (sub_at subs p)
@@ -141,45 +147,46 @@ module _ (vs : List MadeVertex) (names : List PartName) (subs : List Sub) (tasks
           let within = (All-contains (IsInside (length subs)) tasks.reads read numbered.inside there).producer in
           (read, there, reader, numbered.once read.producer p within less same)
 
-  is_gone : (n : ℕ) → n < length subs → is_on gone n ≡ true → IsGone vs names (sub_at subs n)
-  is_gone n lt is = (are_gone.each n lt).0 is
+  is_gone : (n : ℕ) → Contains gone n → IsGone vs names (sub_at subs n)
+  is_gone n has = (are_gone.each n (gone_inside n has)).0 has
+
+  is_lost : (n : ℕ) → IsWanted tasks gone awaited n → Contains gone n
+  is_lost n (inl has) = ((are_awaited.each n).0 has).0
+  is_lost n (inr (has, open_reader)) = has
+
+  gone_done : (n : ℕ) → Contains gone n → is_done tasks.done n ≡ true
+  gone_done n has = numbered.done n (gone_inside n has) ∙ gone_finished vs names (sub_at subs n) (is_gone n has)
 
   -- what runs again was done
-  all_done : (n : ℕ) → is_on marks n ≡ true → is_done tasks.done n ≡ true
-  all_done n is = both_right (is_on marks n) (is_done tasks.done n) (reruns.least (λ m. is_on marks m && is_done tasks.done m) closed n is)
+  all_done : (n : ℕ) → Contains again n → is_done tasks.done n ≡ true
+  all_done n has = All-contains (λ m. IsTrue (is_done tasks.done m)) again n (reruns.least (λ m. is_done tasks.done m) closed) has
     where
-      gone_done : (m : ℕ) → m < length subs → is_on gone m ≡ true → is_done tasks.done m ≡ true
-      gone_done m lt on = numbered.done m lt ∙ gone_finished vs names (sub_at subs m) (is_gone m lt on)
+      done : (m k : ℕ) → LeadsTo tasks gone m k → is_done tasks.done k ≡ true
+      done m k (inl (reads, is)) = is
+      done m k (inr (reads, lost)) = gone_done k lost
 
-      both : (a b : Bool) → a ≡ true → b ≡ true → (a && b) ≡ true
-      both a b e f = ap (λ (x : Bool). x && b) e ∙ f
-
-      closed : IsClosed tasks gone awaited (λ m. is_on marks m && is_done tasks.done m)
+      closed : IsClosed tasks gone awaited (λ m. IsTrue (is_done tasks.done m))
       closed = record {
-        first = λ m lt wanted. both (is_on marks m) (is_done tasks.done m) (reruns.closed.first m lt wanted) (gone_done m (subst (λ (k : ℕ). m < k) numbered.len lt) wanted.lost);
-        onward = λ m k here leads. both (is_on marks k) (is_done tasks.done k) (reruns.closed.onward m k (both_left (is_on marks m) (is_done tasks.done m) here) leads) (done m k leads);
+        first = λ m wanted. gone_done m (is_lost m wanted);
+        onward = λ m k here leads. done m k leads;
       }
-        where
-          done : (m k : ℕ) → LeadsTo tasks gone m k → is_done tasks.done k ≡ true
-          done m k (inl (reads, is)) = is
-          done m k (inr (reads, on)) = gone_done k (inside m k reads).1 on
 
   -- ---- in and out of the set
 
-  in_set : (n : ℕ) (sub : Sub) → n < length subs → sub_at subs n ≡ sub → is_on marks n ≡ true → Contains set sub
-  in_set n sub lt same is = subst (λ (s : Sub). Contains set s) same (picked.all n lt is)
+  in_set : (n : ℕ) (sub : Sub) → sub_at subs n ≡ sub → Contains again n → Contains set sub
+  in_set n sub same is = subst (λ (s : Sub). Contains set s) same (picked.all n is)
 
-  marked : (n : ℕ) → n < length subs → Contains set (sub_at subs n) → is_on marks n ≡ true
-  marked n lt has = at (picked.picked (sub_at subs n) has)
+  chosen : (n : ℕ) → n < length subs → Contains set (sub_at subs n) → Contains again n
+  chosen n lt has = at (picked.picked (sub_at subs n) has)
     where
-      at : (m : ℕ) × (m < length subs) × (sub_at subs m ≡ sub_at subs n) × (is_on marks m ≡ true) → is_on marks n ≡ true
-      at (m, less, same, is) = subst (λ (k : ℕ). is_on marks k ≡ true) (numbered.once m n less lt same) is
+      at : (m : ℕ) × Contains again m × (sub_at subs m ≡ sub_at subs n) → Contains again n
+      at (m, is, same) = subst (λ (k : ℕ). Contains again k) (numbered.once m n (again_inside m is) lt same) is
 
   finished : (sub : Sub) → Contains set sub → is_finished vs sub ≡ true
   finished sub has = at (picked.picked sub has)
     where
-      at : (n : ℕ) × (n < length subs) × (sub_at subs n ≡ sub) × (is_on marks n ≡ true) → is_finished vs sub ≡ true
-      at (n, lt, same, is) = ap (is_finished vs) (sym same) ∙ sym (numbered.done n lt) ∙ all_done n is
+      at : (n : ℕ) × Contains again n × (sub_at subs n ≡ sub) → is_finished vs sub ≡ true
+      at (n, is, same) = ap (is_finished vs) (sym same) ∙ sym (numbered.done n (again_inside n is)) ∙ all_done n is
 
   abbrev Lost : Sub → Type 0
   Lost sub = IsGone vs names sub → Wanted vs set sub → Contains set sub
@@ -187,23 +194,23 @@ module _ (vs : List MadeVertex) (names : List PartName) (subs : List Sub) (tasks
   lost_number : (n : ℕ) → n < length subs → Lost (sub_at subs n)
   lost_number n lt is wanted = by wanted
     where
-      on : is_on gone n ≡ true
-      on = (are_gone.each n lt).1 is
+      there : Contains gone n
+      there = (are_gone.each n lt).1 is
 
       first : IsWanted tasks gone awaited n → Contains set (sub_at subs n)
-      first want = in_set n (sub_at subs n) lt refl (reruns.closed.first n (subst (λ (k : ℕ). n < k) (sym numbered.len) lt) want)
+      first want = in_set n (sub_at subs n) refl (reruns.closed.first n want)
 
       by_reader : (reader : Sub) → HasNumber subs reader → Contains (reads_from vs reader) (sub_at subs n) → IsFalse (is_finished vs reader) ⊎ Contains set reader → Contains set (sub_at subs n)
       by_reader reader (r, less, same) reads (inl open_reader) =
           let here = subst (λ (s : Sub). Contains (reads_from vs s) (sub_at subs n)) (sym same) reads in
-          first (record { lost = on; wanted = inr (r, sub_reads r n less lt here, numbered.done r less ∙ ap (is_finished vs) same ∙ open_reader) })
-      by_reader reader (r, less, same) reads (inr again) =
+          first (inr (there, (r, sub_reads r n less lt here, numbered.done r less ∙ ap (is_finished vs) same ∙ open_reader)))
+      by_reader reader (r, less, same) reads (inr also) =
           let here = subst (λ (s : Sub). Contains (reads_from vs s) (sub_at subs n)) (sym same) reads in
-          let is_marked = marked r less (subst (λ (s : Sub). Contains set s) (sym same) again) in
-          in_set n (sub_at subs n) lt refl (reruns.closed.onward r n is_marked (inr (sub_reads r n less lt here, on)))
+          let is = chosen r less (subst (λ (s : Sub). Contains set s) (sym same) also) in
+          in_set n (sub_at subs n) refl (reruns.closed.onward r n is (inr (sub_reads r n less lt here, there)))
 
       by : Wanted vs set (sub_at subs n) → Contains set (sub_at subs n)
-      by (inl outputs) = first (record { lost = on; wanted = inl ((are_awaited.each n lt).1 outputs) })
+      by (inl outputs) = first (inl ((are_awaited.each n).1 (there, outputs)))
       by (inr (reader, reads, why)) = by_reader reader (numbered.each reader (reader_decided vs reader (sub_at subs n) reads)) reads why
 
   lost : (sub : Sub) → Lost sub
@@ -217,43 +224,40 @@ module _ (vs : List MadeVertex) (names : List PartName) (subs : List Sub) (tasks
   readers : HasReaders vs set
   readers reader producer is reads has = at (numbered.each reader (finished_decided vs reader is)) (picked.picked producer has)
     where
-      at : HasNumber subs reader → (p : ℕ) × (p < length subs) × (sub_at subs p ≡ producer) × (is_on marks p ≡ true) → Contains set reader
-      at (r, less, same) (p, lt, there, on) =
+      at : HasNumber subs reader → (p : ℕ) × Contains again p × (sub_at subs p ≡ producer) → Contains set reader
+      at (r, less, same) (p, also, there) =
           let here = subst (λ (s : Sub). Contains (reads_from vs s) (sub_at subs p)) (sym same) (subst (λ (s : Sub). Contains (reads_from vs reader) s) (sym there) reads) in
           let done : is_done tasks.done r ≡ true = numbered.done r less ∙ ap (is_finished vs) same ∙ is in
-          in_set r reader less same (reruns.closed.onward p r on (inl (sub_reads r p less lt here, done)))
+          in_set r reader same (reruns.closed.onward p r also (inl (sub_reads r p less (again_inside p also) here, done)))
 
   -- ---- within each closed set
 
   module _ (other : List Sub) (closes : Closes vs names other) where
-    wanted_by : (n : ℕ) → IsWanted tasks gone awaited n → n < length subs → Wanted vs other (sub_at subs n)
-    wanted_by n want lt = by want.wanted
-      where
-        by : (is_on awaited n ≡ true) ⊎ ((reader : ℕ) × Reads tasks reader n × (is_done tasks.done reader ≡ false)) → Wanted vs other (sub_at subs n)
-        by (inl on) = inl ((are_awaited.each n lt).0 on)
-        by (inr (reader, reads, open_reader)) =
-            inr (sub_at subs reader, reads_sub reader n reads, inl (sym (numbered.done reader (inside reader n reads).0) ∙ open_reader))
+    wanted_by : (n : ℕ) → IsWanted tasks gone awaited n → Wanted vs other (sub_at subs n)
+    wanted_by n (inl has) = inl ((are_awaited.each n).0 has).1
+    wanted_by n (inr (has, (reader, reads, open_reader))) =
+        inr (sub_at subs reader, reads_sub reader n reads, inl (sym (numbered.done reader (inside reader n reads).0) ∙ open_reader))
 
     onward : (n m : ℕ) → is_in other (sub_at subs n) ≡ true → LeadsTo tasks gone n m → is_in other (sub_at subs m) ≡ true
     onward n m is (inl (reads, done)) =
         let finishes : is_finished vs (sub_at subs m) ≡ true = sym (numbered.done m (inside m n reads).0) ∙ done in
         has_in other (sub_at subs m) (closes.readers (sub_at subs m) (sub_at subs n) finishes (reads_sub m n reads) (in_has other (sub_at subs n) is))
-    onward n m is (inr (reads, on)) =
-        has_in other (sub_at subs m) (closes.lost (sub_at subs m) (is_gone m (inside n m reads).1 on) (inr (sub_at subs n, reads_sub n m reads, inr (in_has other (sub_at subs n) is))))
+    onward n m is (inr (reads, there)) =
+        has_in other (sub_at subs m) (closes.lost (sub_at subs m) (is_gone m there) (inr (sub_at subs n, reads_sub n m reads, inr (in_has other (sub_at subs n) is))))
 
-    closed_too : IsClosed tasks gone awaited (λ n. is_in other (sub_at subs n))
+    closed_too : IsClosed tasks gone awaited (λ n. IsTrue (is_in other (sub_at subs n)))
     closed_too = record {
-      first = λ n lt want.
-          let less = subst (λ (k : ℕ). n < k) numbered.len lt in
-          has_in other (sub_at subs n) (closes.lost (sub_at subs n) (is_gone n less want.lost) (wanted_by n want less));
+      first = λ n want. has_in other (sub_at subs n) (closes.lost (sub_at subs n) (is_gone n (is_lost n want)) (wanted_by n want));
       onward = onward;
     }
 
     within : (sub : Sub) → Contains set sub → Contains other sub
     within sub has = at (picked.picked sub has)
       where
-        at : (n : ℕ) × (n < length subs) × (sub_at subs n ≡ sub) × (is_on marks n ≡ true) → Contains other sub
-        at (n, lt, same, on) = subst (λ (s : Sub). Contains other s) same (in_has other (sub_at subs n) (reruns.least (λ m. is_in other (sub_at subs m)) closed_too n on))
+        at : (n : ℕ) × Contains again n × (sub_at subs n ≡ sub) → Contains other sub
+        at (n, is, same) =
+            subst (λ (s : Sub). Contains other s) same
+            (in_has other (sub_at subs n) (All-contains (λ m. IsTrue (is_in other (sub_at subs m))) again n (reruns.least (λ m. is_in other (sub_at subs m)) closed_too) is))
 
   all_of : (P : Sub → Type 0) → ((sub : Sub) → Contains set sub → P sub) → All P set
   all_of P each k d lt = each (get_or set k d) (Contains-get_or set k d lt)
@@ -267,5 +271,13 @@ module _ (vs : List MadeVertex) (names : List PartName) (subs : List Sub) (tasks
   }
 
 pub closure_law : ClosureLaw
-closure_law vs names subs tasks gone awaited marks set numbered are_gone are_awaited reruns picked =
-    is_closure vs names subs tasks gone awaited marks set numbered are_gone are_awaited reruns picked
+closure_law vs names subs tasks gone awaited again set numbered are_gone are_awaited reruns picked =
+    is_closure vs names subs tasks gone awaited again set numbered are_gone are_awaited reruns picked
+
+-- ---- numbers that stand apart
+
+-- numbers each once are of subtasks each once
+pub apart : (vs : List MadeVertex) (subs : List Sub) (tasks : Tasks) (numbers : List ℕ) → AreNumbered vs subs tasks → All (λ n. n < length subs) numbers → AllPairs ◌≢◌ numbers
+    → AllPairs (λ n m. sub_at subs n ≢ sub_at subs m) numbers
+apart vs subs tasks numbers numbered inside once i j d lt less same =
+    once i j d lt less (numbered.once (get_or numbers i d) (get_or numbers j d) (inside i d (omega (arith, lt, less))) (inside j d less) same)

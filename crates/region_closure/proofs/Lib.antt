@@ -1,7 +1,7 @@
+mod Ascending
 mod Awaiting
 mod Closing
-mod Marking
+mod Losing
 mod Noting
-mod Picking
 mod Placing
 mod Same

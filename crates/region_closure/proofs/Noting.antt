@@ -1,5 +1,5 @@
 -- One lost part more is noted.
-use Rattle.std.proofs.Common.{◌≡◌, ℕ, ◌<◌, Bool, List, [], ◌∷◌, ◌++◌, length, Some, sym, ◌∙◌, ap, subst, arith, inl, inr}
+use Rattle.std.proofs.Common.{◌≡◌, ℕ, ◌<◌, List, [], ◌∷◌, ◌++◌, length, Some, sym, ◌∙◌, ap, subst, arith, inl, inr}
 use Rattle.estate.specs.declared.part_name.PartName.{PartName}
 use Rattle.graph_model.specs.declared.made_vertex.MadeVertex.{MadeVertex}
 use Rattle.graph_model.specs.declared.sub.Sub.{Sub}
@@ -7,7 +7,7 @@ use Rattle.graph_model.specs.States.{sub_of, subtasks_at, winner_name}
 use Rattle.region_closure.specs.Closing.{AreGone, OwnParts}
 use Rattle.region_closure.specs.Numbers.{ArePlaced, Notes, number_of}
 use Rattle.region_closure.proofs.Closing.{finished_decided, named_finished}
-use Rattle.region_closure.proofs.Marking.{gone_absent, gone_present}
+use Rattle.region_closure.proofs.Losing.{gone_absent, gone_present}
 use Rattle.region_closure.proofs.Placing.{vertex_inside}
 
 abbrev pub no_name : PartName
@@ -23,13 +23,13 @@ module _ (vs : List MadeVertex) (places : List ℕ) (subs : List Sub) (placed : 
   pub has_number : winner_name vs (sub_of name) ≡ Some name → number_of places (sub_of name) < length subs
   has_number won = placed.within (sub_of name) (won_inside won)
 
-  pub gone_noted : OwnParts vs → (front : List PartName) (marks new : List Bool) → length marks ≡ length subs → AreGone vs front subs marks → Notes vs places name marks new → AreGone vs (front ++ name ∷ []) subs new
-  gone_noted own front marks new long h notes = by notes
+  pub gone_noted : OwnParts vs → (front : List PartName) (lost new : List ℕ) → AreGone vs front subs lost → Notes vs places name lost new → AreGone vs (front ++ name ∷ []) subs new
+  gone_noted own front lost new h notes = by notes
     where
-      by : Notes vs places name marks new → AreGone vs (front ++ name ∷ []) subs new
+      by : Notes vs places name lost new → AreGone vs (front ++ name ∷ []) subs new
       by (inl (won, is)) =
-          subst (λ (l : List Bool). AreGone vs (front ++ name ∷ []) subs l) (sym is)
-          (gone_present vs subs own front name marks (number_of places (sub_of name)) h won (subst (λ (n : ℕ). number_of places (sub_of name) < n) (sym long) (has_number won))
+          subst (λ (l : List ℕ). AreGone vs (front ++ name ∷ []) subs l) (sym is)
+          (gone_present vs subs own front name lost (number_of places (sub_of name)) h won (has_number won)
           (placed.is (sub_of name) (won_inside won)) (λ n lt same. sym (placed.number n lt) ∙ ap (number_of places) same))
-      by (inr (lost, is)) =
-          subst (λ (l : List Bool). AreGone vs (front ++ name ∷ []) subs l) (sym is) (gone_absent vs subs own front name marks h lost)
+      by (inr (absent, is)) =
+          subst (λ (l : List ℕ). AreGone vs (front ++ name ∷ []) subs l) (sym is) (gone_absent vs subs own front name lost h absent)

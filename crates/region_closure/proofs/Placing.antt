@@ -17,7 +17,3 @@ vertex_inside vs sub has = ⊎_elim
     let few : length (subtasks_at vs sub.vertex) ≡ 0 = ap (λ (made : MadeVertex). length made.subtasks) none in
     absurd (omega (arith, has, few)))
     (cases_lt sub.vertex (length vs))
-
--- each subtask has one number
-pub once : (vs : List MadeVertex) (places : List ℕ) (subs : List Sub) → ArePlaced vs places subs → (n m : ℕ) → n < length subs → m < length subs → sub_at subs n ≡ sub_at subs m → n ≡ m
-once vs places subs h n m lt less same = sym (h.number n lt) ∙ ap (number_of places) same ∙ h.number m less

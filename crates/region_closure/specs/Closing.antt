@@ -1,5 +1,5 @@
--- The subtasks that run again, by the marks of their numbers.
-use Rattle.std.specs.Prelude.{◌≡◌, ◌↔◌, ℕ, ◌<◌, Bool, true, List, Some, length, map, All, Any, AllPairs, Contains}
+-- The subtasks that run again, by their numbers.
+use Rattle.std.specs.Prelude.{◌≡◌, ◌↔◌, ℕ, ◌<◌, List, Some, length, map, All, Any, AllPairs, Contains}
 use Rattle.estate.specs.declared.part_name.PartName.{PartName}
 use Rattle.reader_index.specs.Links.{IsInside}
 use Rattle.reader_index.specs.Tasks.{Tasks, is_done, reads_of}
@@ -9,7 +9,7 @@ use Rattle.graph_model.specs.Closures.{IsAwaited, IsBefore, IsClosure, IsGone}
 use Rattle.graph_model.specs.Indexes.{sub_at}
 use Rattle.graph_model.specs.Reads.{reads_from}
 use Rattle.graph_model.specs.States.{is_finished, sub_of, subtasks_at, vertex_at, winner_name}
-use Rattle.rerun_set.specs.Reruns.{AreReruns, is_on}
+use Rattle.rerun_set.specs.Reruns.{AreReruns}
 
 -- the number of a subtask
 abbrev pub HasNumber : List Sub → Sub → Type 0
@@ -35,31 +35,36 @@ abbrev pub OwnParts : List MadeVertex → Type 0
 OwnParts vertices = (sub : Sub) (name : PartName) → winner_name vertices sub ≡ Some name
     → sub_of name ≡ sub
 
--- those are marked whose part is gone
+-- the subtasks whose part is gone
 pub record AreGone (vertices : List MadeVertex) (gone : List PartName) (subs : List Sub)
-    (marks : List Bool) : Type 0 where
+    (lost : List ℕ) : Type 0 where
+  pub inside : All (λ n. n < length subs) lost
   pub each : (n : ℕ) → n < length subs
-      → ((is_on marks n ≡ true) ↔ IsGone vertices gone (sub_at subs n))
+      → (Contains lost n ↔ IsGone vertices gone (sub_at subs n))
 
--- those are marked whose vertex ends in a sink, or has a consumer that is in no decided vertex
-pub record AreAwaited (vertices : List MadeVertex) (subs : List Sub) (marks : List Bool) : Type 0 where
-  pub each : (n : ℕ) → n < length subs → ((is_on marks n ≡ true)
-      ↔ Any (IsAwaited vertices) (vertex_at vertices (sub_at subs n).vertex).vertex.outputs)
+-- the vertex of a subtask ends in a sink, or has a consumer that is in no decided vertex
+abbrev pub HasAwaited : List MadeVertex → Sub → Type 0
+HasAwaited vertices sub = Any (IsAwaited vertices) (vertex_at vertices sub.vertex).vertex.outputs
 
--- the marked subtasks, in ascending order
-pub record ArePicked (subs : List Sub) (marks : List Bool) (set : List Sub) : Type 0 where
+-- those of the lost that are awaited by their vertex
+pub record AreAwaited (vertices : List MadeVertex) (subs : List Sub)
+    (lost awaited : List ℕ) : Type 0 where
+  pub each : (n : ℕ) → Contains awaited n ↔ (Contains lost n × HasAwaited vertices (sub_at subs n))
+
+-- the subtasks of these numbers, in ascending order
+pub record ArePicked (subs : List Sub) (numbers : List ℕ) (set : List Sub) : Type 0 where
   pub ascending : AllPairs IsBefore set
   pub picked : (sub : Sub) → Contains set sub
-      → (n : ℕ) × (n < length subs) × (sub_at subs n ≡ sub) × (is_on marks n ≡ true)
-  pub all : (n : ℕ) → n < length subs → is_on marks n ≡ true → Contains set (sub_at subs n)
+      → (n : ℕ) × Contains numbers n × (sub_at subs n ≡ sub)
+  pub all : (n : ℕ) → Contains numbers n → Contains set (sub_at subs n)
 
 -- the subtasks whose tasks run again are the closure
 abbrev pub ClosureLaw : Type 0
 ClosureLaw = (vertices : List MadeVertex) (names : List PartName) (subs : List Sub) (tasks : Tasks)
-    (gone awaited marks : List Bool) (set : List Sub)
-    → AreNumbered vertices subs tasks → AreGone vertices names subs gone
-    → AreAwaited vertices subs awaited → AreReruns tasks gone awaited marks
-    → ArePicked subs marks set → IsClosure vertices names set
+    (lost awaited again : List ℕ) (set : List Sub)
+    → AreNumbered vertices subs tasks → AreGone vertices names subs lost
+    → AreAwaited vertices subs lost awaited → AreReruns tasks lost awaited again
+    → ArePicked subs again set → IsClosure vertices names set
 
 -- two lists that are the closure of the same parts are one
 abbrev pub SameLaw : Type 0

@@ -1,13 +1,11 @@
 -- The numbers of the subtasks of decided vertices: those of a vertex follow one another.
-use Rattle.std.specs.Prelude.{◌≡◌, ◌⊎◌, ◌↔◌, ℕ, ◌+◌, ◌<◌, ◌≤◌, Bool, true, List, length, get_or, set, Any}
+use Rattle.std.specs.Prelude.{◌≡◌, ◌⊎◌, ℕ, ◌+◌, ◌<◌, ◌≤◌, List, [], ◌∷◌, ◌++◌, length, get_or}
 use Rattle.estate.specs.declared.part_name.PartName.{PartName}
 use Rattle.graph_model.specs.declared.made_vertex.MadeVertex.{MadeVertex}
 use Rattle.graph_model.specs.declared.sub.Sub.{Sub}
-use Rattle.graph_model.specs.Closures.{IsAwaited}
 use Rattle.graph_model.specs.Indexes.{sub_at}
 use Rattle.graph_model.specs.States.{sub_of, subtasks_at, vertex_at}
 use Rattle.graph_vertices.specs.Winning.{IsPresent}
-use Rattle.rerun_set.specs.Reruns.{is_on}
 
 -- a subtask's number: it is counted from its vertex's first one
 abbrev pub number_of : List ℕ → Sub → ℕ
@@ -25,14 +23,8 @@ pub record ArePlaced (vertices : List MadeVertex) (places : List ℕ)
       → (sub_at subs n).subtask < length (subtasks_at vertices (sub_at subs n).vertex)
   pub number : (n : ℕ) → n < length subs → number_of places (sub_at subs n) ≡ n
 
--- the part's subtask is marked, if it is a present winner's
-abbrev pub Notes : List MadeVertex → List ℕ → PartName → List Bool → List Bool → Type 0
+-- the number of the part's subtask is added, if it is a present winner's
+abbrev pub Notes : List MadeVertex → List ℕ → PartName → List ℕ → List ℕ → Type 0
 Notes vertices places name old new =
-    (IsPresent vertices name × (new ≡ set old (number_of places (sub_of name)) true))
+    (IsPresent vertices name × (new ≡ old ++ number_of places (sub_of name) ∷ []))
     ⊎ ((IsPresent vertices name → ⊥) × (new ≡ old))
-
--- those vertices are marked that end in a sink, or have a consumer that is in no decided vertex
-pub record HaveAwaited (vertices : List MadeVertex) (marks : List Bool) : Type 0 where
-  pub len : length marks ≡ length vertices
-  pub each : (v : ℕ) → v < length vertices → ((is_on marks v ≡ true)
-      ↔ Any (IsAwaited vertices) (vertex_at vertices v).vertex.outputs)

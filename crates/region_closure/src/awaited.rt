@@ -1,9 +1,7 @@
-ghost use Rattle.std.specs.Prelude.{◌≡◌, ◌↔◌, Any, IfOk, IsTrue, length};
+ghost use Rattle.std.specs.Prelude.{◌≡◌, ◌<◌, ◌↔◌, [], ◌∷◌, ◌++◌, All, Any, IfOk, OnOk, IsTrue, length, true, false};
 ghost use Rattle.graph_model.specs.Closures.{IsAwaited};
 ghost use Rattle.graph_model.specs.States.{is_decided, maker, vertex_at};
-ghost use Rattle.region_closure.specs.Closing.{AreAwaited};
-ghost use Rattle.region_closure.specs.Numbers.{HaveAwaited};
-ghost use Rattle.rerun_set.specs.Reruns.{is_on};
+ghost use Rattle.region_closure.specs.Closing.{AreAwaited, HasAwaited};
 
 use graph_model::Sub;
 use graph_vertices::MadeVertices;
@@ -11,45 +9,46 @@ use row_core::NoMemory;
 use std::alloc::Global;
 use vertex_builder::VertexOutput;
 
-/// Marks the subtasks of vertices that end in a sink, or one of whose consumers is in no decided
-/// vertex.
-pub fn awaited_marks(
+/// Of the numbers of lost subtasks those whose vertex ends in a sink, or has a consumer that is in
+/// no decided vertex.
+pub fn awaited_numbers(
     alloc: Global,
     vertices: &MadeVertices,
     subs: &[Sub],
-) -> Result<Vec<bool>, NoMemory>
-    ensures len { IfOk result (λ marks. length marks.items ≡ length subs.now) }
-    ensures awaited { IfOk result (λ marks. AreAwaited vertices.now subs.now marks.items) }
+    lost: &[usize],
+) -> Result<Vec<usize>, NoMemory>
+    requires { All (λ n. n < length subs.now) lost.now }
+    ensures { IfOk result (λ awaited. AreAwaited vertices.now subs.now lost.now awaited.items) }
 {
-    let by_vertex = awaited_vertices(alloc, vertices)?;
-    let mut marks = Vec::with_capacity(alloc, subs.len())?;
-    for sub in subs {
-        marks.push(is_on(by_vertex.as_slice(), sub.vertex as usize))?;
+    let mut awaited = Vec::new(alloc);
+    for number in lost {
+        push_if(&mut awaited, *number, has_awaited(vertices, subs[*number]))?;
     }
-    Ok(marks)
+    Ok(awaited)
 }
 
-fn is_on(marks: &[bool], place: usize) -> bool
-    ensures { result ≡ is_on marks.now place }
+fn push_if(numbers: &mut Vec<usize>, number: usize, passes: bool) -> Result<(), NoMemory>
+    ensures yes { OnOk result (passes ≡ true
+        → numbers.new.items ≡ numbers.old.items ++ number ∷ []) }
+    ensures no { passes ≡ false → numbers.new.items ≡ numbers.old.items }
 {
-    match marks.get(place) {
-        Some(mark) => *mark,
+    if !passes {
+        return Ok(());
+    }
+    numbers.push(number)?;
+    Ok(())
+}
+
+fn has_awaited(vertices: &MadeVertices, sub: Sub) -> bool
+    ensures { IsTrue result ↔ HasAwaited vertices.now sub }
+{
+    match vertices.as_slice().get(sub.vertex as usize) {
+        Some(made) => any_awaited(vertices, made.vertex.outputs.as_slice()),
         None => false,
     }
 }
 
-fn awaited_vertices(alloc: Global, vertices: &MadeVertices) -> Result<Vec<bool>, NoMemory>
-    ensures { IfOk result (λ marks. HaveAwaited vertices.now marks.items) }
-{
-    let items = vertices.as_slice();
-    let mut marks = Vec::with_capacity(alloc, items.len())?;
-    for made in items {
-        marks.push(has_awaited(vertices, made.vertex.outputs.as_slice()))?;
-    }
-    Ok(marks)
-}
-
-fn has_awaited(vertices: &MadeVertices, outputs: &[VertexOutput]) -> bool
+fn any_awaited(vertices: &MadeVertices, outputs: &[VertexOutput]) -> bool
     ensures { IsTrue result ↔ Any (IsAwaited vertices.now) outputs.now }
 {
     outputs.iter().any(|output| is_awaited(vertices, output))

@@ -3,7 +3,7 @@ ghost use Rattle.graph_model.specs.Closures.{IsClosure};
 ghost use Rattle.region_closure.specs.Closing.{AreNumbered, OwnParts};
 ghost use Rattle.region_closure.specs.Numbers.{ArePlaced};
 
-use crate::{awaited_marks, closures_are_one, lost_marks, picked_subs, reruns_are_the_closure};
+use crate::{awaited_numbers, closures_are_one, lost_numbers, picked_subs, reruns_are_the_closure};
 use estate::PartName;
 use graph_model::{Sub, Subs};
 use graph_vertices::MadeVertices;
@@ -14,8 +14,8 @@ use std::alloc::Global;
 
 /// The subtasks that run again where these parts are gone, in ascending order. The vertices come
 /// with the first number of each one's subtasks, the subtask of each number, and the tasks by
-/// number. It costs a look at each subtask and each name, and as much as those that run again have
-/// readers and producers.
+/// number. It costs a look at each name, as much as those that are gone or run again have readers
+/// and producers, and a sort of those that run again; no other subtask is looked at.
 pub fn closure_of(
     alloc: Global,
     vertices: &MadeVertices,
@@ -30,10 +30,10 @@ pub fn closure_of(
     ensures { IfOk result (λ set. IsClosure vertices.now gone.now set) }
 {
     reruns_are_the_closure();
-    let lost = lost_marks(alloc, vertices, places, subs, gone)?;
-    let awaited = awaited_marks(alloc, vertices, subs)?;
-    let marks = reruns(alloc, tasks, lost.as_slice(), awaited.as_slice())?;
-    picked_subs(alloc, vertices, places, subs, marks.as_slice())
+    let lost = lost_numbers(alloc, vertices, places, subs, gone)?;
+    let awaited = awaited_numbers(alloc, vertices, subs, lost.as_slice())?;
+    let again = reruns(alloc, tasks, lost.as_slice(), awaited.as_slice())?;
+    picked_subs(alloc, subs, again.as_slice())
 }
 
 /// Whether these are the subtasks that run again, in ascending order and each once.

@@ -1,4 +1,4 @@
-ghost use Rattle.std.specs.Prelude.{◌≡◌, ◌<◌, IfOk, length};
+ghost use Rattle.std.specs.Prelude.{◌<◌, IfOk, OnOk, length};
 ghost use Rattle.graph_model.specs.States.{sub_of};
 ghost use Rattle.graph_vertices.specs.Winning.{IsPresent};
 ghost use Rattle.region_closure.specs.Closing.{AreGone, OwnParts};
@@ -10,37 +10,43 @@ use graph_vertices::MadeVertices;
 use row_core::NoMemory;
 use std::alloc::Global;
 
-/// Marks the subtasks whose winner's part is among those that are gone.
-pub fn lost_marks(
+/// The numbers of the subtasks whose winner's part is among those that are gone.
+pub fn lost_numbers(
     alloc: Global,
     vertices: &MadeVertices,
     places: &[usize],
     subs: &[Sub],
     gone: &[PartName],
-) -> Result<Vec<bool>, NoMemory>
+) -> Result<Vec<usize>, NoMemory>
     requires placed { ArePlaced vertices.now places.now subs.now }
     requires own { OwnParts vertices.now }
-    ensures len { IfOk result (λ marks. length marks.items ≡ length subs.now) }
-    ensures gone { IfOk result (λ marks. AreGone vertices.now gone.now subs.now marks.items) }
+    ensures { IfOk result (λ lost. AreGone vertices.now gone.now subs.now lost.items) }
 {
-    let mut marks = vec![in alloc; false; subs.len()]?;
+    let mut lost = Vec::new(alloc);
     for place in 0..gone.len() {
-        note_lost(&mut marks, vertices, places, gone[place]);
+        note_lost(&mut lost, vertices, places, subs, gone[place])?;
     }
-    Ok(marks)
+    Ok(lost)
 }
 
-// Marks the subtask of a part, if the part is a present winner's.
-fn note_lost(marks: &mut Vec<bool>, vertices: &MadeVertices, places: &[usize], name: PartName)
+// Adds the number of a part's subtask, if the part is a present winner's.
+fn note_lost(
+    lost: &mut Vec<usize>,
+    vertices: &MadeVertices,
+    places: &[usize],
+    subs: &[Sub],
+    name: PartName,
+) -> Result<(), NoMemory>
     requires placed { IsPresent vertices.now name → name.vertex < length places.now }
     requires numbered { IsPresent vertices.now name
-        → number_of places.now (sub_of name) < length marks.old.items }
-    ensures len { length marks.new.items ≡ length marks.old.items }
-    ensures noted { Notes vertices.now places.now name marks.old.items marks.new.items }
+        → number_of places.now (sub_of name) < length subs.now }
+    ensures { OnOk result (Notes vertices.now places.now name lost.old.items lost.new.items) }
 {
     if !vertices.is_present(name) {
-        return;
+        return Ok(());
     }
+    let _count = subs.len();
     let number = places[name.vertex as usize] + name.subtask as usize;
-    marks[number] = true;
+    lost.push(number)?;
+    Ok(())
 }

@@ -9,8 +9,8 @@ use std::alloc::Global;
 
 /// The subtasks that run again where these parts are gone, in ascending order: each whose winner's
 /// part is gone and still wanted, and each finished one that reads from one that runs again. It
-/// costs a look at each subtask that is decided and each part, and as much as those that run again
-/// have readers and producers.
+/// costs a look at each part, as much as those that are gone or run again have readers and
+/// producers, and a sort of those that run again. No other subtask is looked at.
 pub fn closure(alloc: Global, graph: &Graph, gone: &Names) -> Result<Subs, NoMemory>
     ensures { IfOk result (λ set. IsClosure graph.now.job.state.vertices gone.now set) }
 {

@@ -1,7 +1,7 @@
 -- Numbers of a list, and how often they stand there.
-use Rattle.std.proofs.Common.{◌≡◌, ℕ, zero, suc, ◌+◌, ◌<◌, Bool, List, [], ◌∷◌, length, filter, get_or, refl, sym, ◌∙◌, ap, subst, arith, true, false, cond, inl, inr, ⊎_elim, nat_eq, ◌&&◌, if◌then◌else◌}
-use Rattle.std.specs.Prelude.{◌⊎◌, Contains, HoldsAt, count_by}
-use Rattle.std.proofs.lemmas.Bool.{cases_eq, false≢true}
+use Rattle.std.proofs.Common.{◌≡◌, ℕ, zero, suc, ◌+◌, ◌<◌, Bool, List, [], ◌∷◌, length, filter, refl, sym, ◌∙◌, ap, subst, arith, true, false, cond, ⊎_elim, nat_eq, ◌&&◌, if◌then◌else◌}
+use Rattle.std.specs.Prelude.{Contains, HoldsAt, count_by}
+use Rattle.std.proofs.lemmas.Bool.{false≢true}
 use Rattle.std.proofs.lemmas.Bool.Decides.{nat_tests}
 use Rattle.std.proofs.lemmas.List.Sums.{sum_by-cons}
 use Rattle.std.proofs.lemmas.List.Elements.{Contains-append_right, Contains-append_cases, Contains-get_or, at_from_Contains}

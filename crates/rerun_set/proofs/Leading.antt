@@ -1,8 +1,7 @@
 -- What a search finds along a list, item by item.
-use Rattle.std.proofs.Common.{◌≡◌, ℕ, zero, suc, ◌+◌, ◌<◌, ◌≤◌, Bool, List, [], ◌∷◌, ◌++◌, length, take, get_or, refl, sym, ◌∙◌, ap, subst, arith, true, false, inl, inr, ⊎_elim}
+use Rattle.std.proofs.Common.{◌≡◌, ℕ, Bool, List, [], ◌∷◌, ◌++◌, refl, sym, ◌∙◌, ap, subst, true, false, inl, inr}
 use Rattle.std.specs.Prelude.{◌⊎◌, Contains}
-use Rattle.std.proofs.lemmas.Bool.{cases_lt, false≢true}
-use Rattle.std.proofs.lemmas.List.{take_more}
+use Rattle.std.proofs.lemmas.Bool.{false≢true}
 use Rattle.std.proofs.lemmas.List.Elements.{Contains-append_left, Contains-push, Contains-push_cases}
 use Rattle.rerun_set.specs.Found.{Finds}
 use Rattle.rerun_set.proofs.Finding.{finds_both, finds_none}
@@ -66,38 +65,3 @@ module _ {X : Type 0} (f : X → ℕ) (P : ℕ → Type 0) where
   led_if old found new front x true a to back on off = led_yes old found new front x a (to refl) (on refl)
   led_if old found new front x false a to back on off =
       subst (λ (l : List ℕ). Finds old (Led (front ++ x ∷ [])) l) (sym (off refl)) (led_no old found front x a (λ p. false≢true (back p)))
-
--- ---- numbers below a bound
-
-module _ (P : ℕ → Type 0) where
-  abbrev pub Below : ℕ → ℕ → Type 0
-  Below count n = (n < count) × P n
-
-  pub below_none : (found : List ℕ) → Finds found (Below 0) found
-  below_none found = finds_none found (Below 0) (λ n (lt, p). absurd (omega (arith, lt)))
-
-  pub below_yes : (old found new : List ℕ) (i : ℕ) → Finds old (Below i) found → P i → Finds found (λ n. n ≡ i) new → Finds old (Below (i + 1)) new
-  below_yes old found new i a p b =
-      finds_both old found new (Below i) (λ n. n ≡ i) (Below (i + 1)) a b
-      (λ n (lt, q). by n q (cases_lt n i) lt)
-      (λ n (lt, q). (omega (arith, lt), q))
-      (λ n is. (omega (arith, is), subst P (sym is) p))
-    where
-      by : (n : ℕ) → P n → (n < i) ⊎ (i ≤ n) → n < i + 1 → Below i n ⊎ (n ≡ i)
-      by n q (inl lt) less = inl (lt, q)
-      by n q (inr le) less = inr (omega (arith, le, less))
-
-  pub below_no : (old found : List ℕ) (i : ℕ) → Finds old (Below i) found → (P i → ⊥) → Finds old (Below (i + 1)) found
-  below_no old found i a never =
-      finds_same old found (Below i) (Below (i + 1)) (λ n (lt, q). (omega (arith, lt), q)) (λ n (lt, q). by n q (cases_lt n i) lt) a
-    where
-      by : (n : ℕ) → P n → (n < i) ⊎ (i ≤ n) → n < i + 1 → Below i n
-      by n q (inl lt) less = (lt, q)
-      by n q (inr le) less = absurd (never (subst P (let same : n ≡ i = omega (arith, le, less) in same) q))
-
-  -- one number more, by a test
-  pub below_if : (old found new : List ℕ) (i : ℕ) (b : Bool) → Finds old (Below i) found → (b ≡ true → P i) → (P i → b ≡ true)
-      → (b ≡ true → Finds found (λ n. n ≡ i) new) → (b ≡ false → new ≡ found) → Finds old (Below (i + 1)) new
-  below_if old found new i true a to back on off = below_yes old found new i a (to refl) (on refl)
-  below_if old found new i false a to back on off =
-      subst (λ (l : List ℕ). Finds old (Below (i + 1)) l) (sym (off refl)) (below_no old found i a (λ p. false≢true (back p)))

@@ -1,13 +1,13 @@
 -- The readers and the producers of a task, as numbers that a search finds.
-use Rattle.std.proofs.Common.{◌≡◌, ℕ, ◌<◌, Bool, List, length, get_or, refl, sym, ◌∙◌, ap, subst, true, false, nat_eq}
+use Rattle.std.proofs.Common.{◌≡◌, ℕ, ◌<◌, List, length, get_or, refl, sym, ◌∙◌, ap, subst, true, false, nat_eq}
 use Rattle.std.specs.Prelude.{All, Contains, HoldsAt, count_by}
 use Rattle.std.proofs.lemmas.Bool.{false≢true}
-use Rattle.std.proofs.lemmas.List.Elements.{All-contains, All-filter, All-same, Contains-get_or, at_from_Contains}
-use Rattle.reader_index.specs.Links.{IsInside, no_read}
+use Rattle.std.proofs.lemmas.List.Elements.{All-contains, Contains-get_or, at_from_Contains}
+use Rattle.reader_index.specs.Links.{IsInside}
 use Rattle.reader_index.specs.Tasks.{Tasks, is_between, is_done, is_of, reads_of}
 use Rattle.reader_index.specs.declared.read.Read.{Read}
 use Rattle.rerun_set.specs.Found.{Finds}
-use Rattle.rerun_set.specs.Reruns.{Reads}
+use Rattle.rerun_set.specs.Reruns.{HasOpenReader, Reads}
 use Rattle.rerun_set.proofs.Items.{from_filter, into_filter, reader_reads, reads_reader, same_number, same_yes}
 use Rattle.rerun_set.proofs.Leading.{Led, finds_same}
 
@@ -36,14 +36,10 @@ producers_found tasks task old new P h =
     back n ((read, has, reader, producer), p) =
         (read, into_filter (is_of task) tasks.reads read has (ap (nat_eq task) reader ∙ same_yes task), producer, p)
 
--- a reader that isn't done
-abbrev pub HasOpen : Tasks → ℕ → Type 0
-HasOpen tasks task = (reader : ℕ) × Reads tasks reader task × (is_done tasks.done reader ≡ false)
-
-pub open_at : (tasks : Tasks) (task : ℕ) (readers : List ℕ) (k : ℕ) → AreItsReaders tasks task readers → k < length readers → is_done tasks.done (get_or readers k 0) ≡ false → HasOpen tasks task
+pub open_at : (tasks : Tasks) (task : ℕ) (readers : List ℕ) (k : ℕ) → AreItsReaders tasks task readers → k < length readers → is_done tasks.done (get_or readers k 0) ≡ false → HasOpenReader tasks task
 open_at tasks task readers k same lt is = (get_or readers k 0, reader_reads tasks task readers same (get_or readers k 0) (Contains-get_or readers k 0 lt), is)
 
-pub none_open : (tasks : Tasks) (task : ℕ) (readers : List ℕ) → AreItsReaders tasks task readers → ((k : ℕ) → k < length readers → is_done tasks.done (get_or readers k 0) ≡ true) → HasOpen tasks task → ⊥
+pub none_open : (tasks : Tasks) (task : ℕ) (readers : List ℕ) → AreItsReaders tasks task readers → ((k : ℕ) → k < length readers → is_done tasks.done (get_or readers k 0) ≡ true) → HasOpenReader tasks task → ⊥
 none_open tasks task readers same all (reader, reads, is) = at (at_from_Contains readers reader (reads_reader tasks task readers same reader reads))
   where
     at : (k : ℕ) × (k < length readers) × HoldsAt (λ (y : ℕ). y ≡ reader) readers k → ⊥
@@ -59,7 +55,9 @@ reader_at tasks task count readers items k inside same is lt =
     at : Reads tasks (get_or items k 0) task → get_or items k 0 < count
     at (read, has, reader, producer) = subst (λ (n : ℕ). n < count) reader (All-contains (IsInside count) tasks.reads read inside has).reader
 
--- and so is whom it reads from
-pub producer_at : (tasks : Tasks) (task count : ℕ) (items : List Read) (k : ℕ) → All (IsInside count) tasks.reads → items ≡ reads_of tasks task → k < length items → (get_or items k no_read).producer < count
-producer_at tasks task count items k inside is lt =
-    (All-same (IsInside count) items (reads_of tasks task) is (All-filter (is_of task) (IsInside count) tasks.reads inside) k no_read lt).producer
+-- of a list's numbers those that pass
+pub listed_found : (list old new : List ℕ) (P : ℕ → Type 0) → Finds old (Led (λ (n : ℕ). n) P list) new → Finds old (λ n. Contains list n × P n) new
+listed_found list old new P h =
+    finds_same old new (Led (λ (n : ℕ). n) P list) (λ n. Contains list n × P n)
+    (λ n (x, has, is, p). (subst (λ (m : ℕ). Contains list m) is has, p))
+    (λ n (has, p). (n, has, refl, p)) h

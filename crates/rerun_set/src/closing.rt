@@ -1,93 +1,67 @@
-ghost use Rattle.std.specs.Prelude.{◌≡◌, ◌<◌, ◌↔◌, ℕ, IsTrue, length, All, IfOk, OnOk, false, true};
+ghost use Rattle.std.specs.Prelude.{◌≡◌, ◌<◌, ◌↔◌, IsTrue, length, All, Contains, IfOk, OnOk, true};
 ghost use Rattle.reader_index.specs.Links.{IsInside};
 ghost use Rattle.reader_index.specs.Tasks.{is_done};
 ghost use Rattle.rerun_set.specs.Found.{Finds};
-ghost use Rattle.rerun_set.specs.Reruns.{AreReruns, IsWanted, Reads, is_on};
+ghost use Rattle.rerun_set.specs.Reruns.{AreReruns, HasOpenReader, Reads};
 
-use crate::Search;
+use crate::TaskSet;
 use reader_index::ReaderIndex;
 use row_core::NoMemory;
 use std::alloc::Global;
 
-/// The tasks that run again, as marks: the least set that has each task whose result is gone and
-/// that is awaited, or has a reader that isn't done or runs again, and each reader, if it was done,
-/// of a task that runs again. It costs a look at each task, and as much as those that are gone or
-/// run again have readers and producers.
+/// The tasks that run again, in the order in which they were found: the least set that has each
+/// task that is awaited, or whose result is gone and that has a reader that isn't done or runs
+/// again, and each reader, if it was done, of a task that runs again. `awaited` are those of `gone`
+/// that somebody else wants. It costs as much as those that are gone or run again have readers and
+/// producers, however many other tasks there are.
 pub fn reruns(
     alloc: Global,
     tasks: &ReaderIndex,
-    gone: &[bool],
-    awaited: &[bool],
-) -> Result<Vec<bool>, NoMemory>
-    requires gone { length gone.now ≡ length tasks.now.done }
-    requires awaited { length awaited.now ≡ length tasks.now.done }
-    ensures { IfOk result (λ marks. AreReruns tasks.now gone.now awaited.now marks.items) }
+    gone: &[usize],
+    awaited: &[usize],
+) -> Result<Vec<usize>, NoMemory>
+    requires gone { All (λ n. n < length tasks.now.done) gone.now }
+    requires awaited { All (λ n. n < length tasks.now.done) awaited.now }
+    ensures { IfOk result (λ again. AreReruns tasks.now gone.now awaited.now again.items) }
 {
-    let mut search = Search::new(alloc, tasks.count())?;
-    find_wanted(alloc, &mut search, tasks, gone, awaited)?;
+    let _count = tasks.count();
+    let lost = TaskSet::of(alloc, gone)?;
+    let mut again = TaskSet::of(alloc, awaited)?;
+    add_wanted(alloc, &mut again, tasks, &lost)?;
     let mut next = 0;
-    while next < search.found().len() {
-        let task = search.found()[next];
-        find_readers(alloc, &mut search, tasks, task)?;
-        find_producers(&mut search, tasks, gone, task)?;
+    while next < again.as_slice().len() {
+        let task = again.as_slice()[next];
+        add_readers(alloc, &mut again, tasks, task)?;
+        add_producers(&mut again, tasks, &lost, task)?;
         next += 1;
     }
-    Ok(search.into_marks())
+    Ok(Vec::from_slice(alloc, again.as_slice())?)
 }
 
-// Finds the tasks whose results are gone and wanted, whatever else runs again.
-fn find_wanted(
+// Adds the tasks whose results are gone while a reader isn't done.
+fn add_wanted(
     alloc: Global,
-    search: &mut Search,
+    again: &mut TaskSet,
     tasks: &ReaderIndex,
-    gone: &[bool],
-    awaited: &[bool],
+    lost: &TaskSet,
 ) -> Result<(), NoMemory>
-    requires size { search.old.size ≡ length tasks.now.done }
     requires inside { All (IsInside (length tasks.now.done)) tasks.now.reads }
-    requires gone { length gone.now ≡ length tasks.now.done }
-    requires awaited { length awaited.now ≡ length tasks.now.done }
-    ensures size { search.new.size ≡ search.old.size }
-    ensures ok { OnOk result (Finds search.old.items
-        (λ n. (n < length tasks.now.done) × IsWanted tasks.now gone.now awaited.now n)
-        search.new.items) }
+    requires lost { All (λ n. n < length tasks.now.done) lost.now }
+    ensures { OnOk result (Finds again.old
+        (λ n. Contains lost.now n × HasOpenReader tasks.now n) again.new) }
 {
-    for task in 0..tasks.count() {
-        let wanted = is_wanted(alloc, tasks, gone, awaited, task)?;
-        search.visit_if(task, wanted)?;
+    for task in lost.as_slice() {
+        let open = has_open_reader(alloc, tasks, *task)?;
+        again.insert_if(*task, open)?;
     }
     Ok(())
-}
-
-fn is_wanted(
-    alloc: Global,
-    tasks: &ReaderIndex,
-    gone: &[bool],
-    awaited: &[bool],
-    task: usize,
-) -> Result<bool, NoMemory>
-    requires task { task < length tasks.now.done }
-    requires inside { All (IsInside (length tasks.now.done)) tasks.now.reads }
-    requires gone { length gone.now ≡ length tasks.now.done }
-    requires awaited { length awaited.now ≡ length tasks.now.done }
-    ensures { IfOk result
-        (λ wanted. IsTrue wanted ↔ IsWanted tasks.now gone.now awaited.now task) }
-{
-    if !gone[task] {
-        return Ok(false);
-    }
-    if awaited[task] {
-        return Ok(true);
-    }
-    has_open_reader(alloc, tasks, task)
 }
 
 // Whether a task has a reader that isn't done.
 fn has_open_reader(alloc: Global, tasks: &ReaderIndex, task: usize) -> Result<bool, NoMemory>
     requires task { task < length tasks.now.done }
     requires inside { All (IsInside (length tasks.now.done)) tasks.now.reads }
-    ensures { IfOk result (λ has. IsTrue has
-        ↔ ((reader : ℕ) × Reads tasks.now reader task × (is_done tasks.now.done reader ≡ false))) }
+    ensures { IfOk result (λ has. IsTrue has ↔ HasOpenReader tasks.now task) }
 {
     let readers = tasks.readers_of(alloc, task)?;
     for reader in readers.as_slice() {
@@ -98,44 +72,38 @@ fn has_open_reader(alloc: Global, tasks: &ReaderIndex, task: usize) -> Result<bo
     Ok(false)
 }
 
-// Finds the readers of a task that were done.
-fn find_readers(
+// Adds the readers of a task that were done.
+fn add_readers(
     alloc: Global,
-    search: &mut Search,
+    again: &mut TaskSet,
     tasks: &ReaderIndex,
     task: usize,
 ) -> Result<(), NoMemory>
     requires task { task < length tasks.now.done }
-    requires size { search.old.size ≡ length tasks.now.done }
     requires inside { All (IsInside (length tasks.now.done)) tasks.now.reads }
-    ensures size { search.new.size ≡ search.old.size }
-    ensures ok { OnOk result (Finds search.old.items
-        (λ n. Reads tasks.now n task × (is_done tasks.now.done n ≡ true)) search.new.items) }
+    ensures { OnOk result (Finds again.old
+        (λ n. Reads tasks.now n task × (is_done tasks.now.done n ≡ true)) again.new) }
 {
     let readers = tasks.readers_of(alloc, task)?;
     for reader in readers.as_slice() {
-        search.visit_if(*reader, tasks.is_done(*reader))?;
+        again.insert_if(*reader, tasks.is_done(*reader))?;
     }
     Ok(())
 }
 
-// Finds the producers of a task whose results are gone.
-fn find_producers(
-    search: &mut Search,
+// Adds the producers of a task whose results are gone.
+fn add_producers(
+    again: &mut TaskSet,
     tasks: &ReaderIndex,
-    gone: &[bool],
+    lost: &TaskSet,
     task: usize,
 ) -> Result<(), NoMemory>
     requires task { task < length tasks.now.done }
-    requires size { search.old.size ≡ length tasks.now.done }
-    requires inside { All (IsInside (length tasks.now.done)) tasks.now.reads }
-    requires gone { length gone.now ≡ length tasks.now.done }
-    ensures size { search.new.size ≡ search.old.size }
-    ensures ok { OnOk result (Finds search.old.items
-        (λ n. Reads tasks.now task n × (is_on gone.now n ≡ true)) search.new.items) }
+    ensures { OnOk result (Finds again.old
+        (λ n. Reads tasks.now task n × Contains lost.now n) again.new) }
 {
     for read in tasks.reads_of(task) {
-        search.visit_if(read.producer, gone[read.producer])?;
+        again.insert_if(read.producer, lost.contains(read.producer))?;
     }
     Ok(())
 }

@@ -4,7 +4,7 @@
 #![tactic(auto)]
 
 mod closing;
-mod search;
+mod task_set;
 
 pub use closing::reruns;
-use search::Search;
+use task_set::TaskSet;

@@ -1,5 +1,6 @@
-use Rattle.region_closure.specs.Picking.{ArePickedBelow}
+use Rattle.std.proofs.Common.{◌≡◌, map, take}
+use Rattle.graph_model.specs.Indexes.{sub_at}
 use Rattle.region_closure.proofs.picked.picked_subs.Given as goal
 
-abbrev pub invariant-loop-vertex : goal.invariant-loop-vertex
-invariant-loop-vertex l = ArePickedBelow l.subs l.marks l.vertex 0 l.set.items
+abbrev pub invariant-loop-number : goal.invariant-loop-number
+invariant-loop-number l = l.set.items ≡ map (sub_at l.subs) (take l.number-index l.numbers)

@@ -1,4 +1,4 @@
-use Rattle.std.proofs.Common.{◌≡◌, ◌<◌, ◌≤◌, ℕ, List, length, get_or, refl, sym, ◌∙◌, ap, subst, arith, true, false, below_more}
+use Rattle.std.proofs.Common.{◌≡◌, ◌≤◌, ℕ, List, length, get_or, refl, sym, subst, arith, true, false, below_more}
 use Rattle.std.proofs.lemmas.Bool.{false≢true}
 use Rattle.reader_index.specs.Tasks.{is_done}
 use Rattle.rerun_set.proofs.Readers.{AreItsReaders, none_open, open_at, reader_at}

@@ -1,47 +1,46 @@
-use Rattle.std.proofs.Common.{◌≡◌, ◌<◌, ◌≤◌, ℕ, List, [], length, get_or, sym, ◌∙◌, ap, subst, true, inl, inr}
-use Rattle.reader_index.specs.Tasks.{is_done}
+use Rattle.std.proofs.Common.{◌≡◌, ◌<◌, ◌≤◌, ℕ, List, length, get_or, sym, ◌∙◌, ap, subst, arith}
+use Rattle.std.specs.Prelude.{◌≢◌, AllPairs}
 use Rattle.rerun_set.specs.Found.{Finds}
-use Rattle.rerun_set.specs.Reruns.{LeadsTo, Reads, is_on}
-use Rattle.rerun_set.proofs.Finding.{finds_both}
-use Rattle.rerun_set.proofs.Underway.{IsFirst, underway_first, underway_more, underway_last}
+use Rattle.rerun_set.specs.Reruns.{AreReruns, LeadsTo}
+use Rattle.rerun_set.proofs.Finding.{few}
+use Rattle.rerun_set.proofs.Underway.{led_on, made_inside, underway_first, underway_last, underway_more}
 use Rattle.rerun_set.proofs.closing.reruns.Goals as goal
 
 pub loop-next-init : goal.loop-next-init
 loop-next-init c =
-    let tasks = c.args.tasks.now in
-    let gone = c.args.gone.now in
-    let awaited = c.args.awaited.now in
-    let items = c.find_wanted.new.search.items in (
-      c.find_wanted.ensures.size ∙ c.in_ok-search.ensures.size ∙ c.count.ensures.count,
-      underway_first tasks gone awaited items
-          (subst (λ (l : List ℕ). Finds l (IsFirst tasks gone awaited) items) c.in_ok-search.ensures.items c.in_ok-find_wanted.ensures.ok),
-    )
+    underway_first c.args.tasks.now c.args.gone.now c.args.awaited.now c.in_ok-again.again c.in_ok-lost.lost c.add_wanted.new.again c.requires.gone c.requires.awaited
+    c.in_ok-lost.ensures c.in_ok-again.ensures c.in_ok-add_wanted.ensures
 
 pub loop-next-preserved : goal.loop-next-preserved
 loop-next-preserved c =
     let tasks = c.args.tasks.now in
     let gone = c.args.gone.now in
-    let awaited = c.args.awaited.now in
-    let items = c.loop-next.search.items in
+    let items = c.loop-next.again in
     let next = c.loop-next.next in
-    let mid = c.find_readers.new.search.items in
-    let new = c.find_producers.new.search.items in
-    let found = c.found-in-loop-next.result.now in
-    let lt : next < length items = subst (λ (l : List ℕ). next < length l) c.found.ensures.items c.loop-next-test.true in
-    let number : get_or found next 0 ≡ get_or items next 0 = ap (λ (l : List ℕ). get_or l next 0) c.found-in-loop-next.ensures.items in
-    let readers : Finds items (λ n. Reads tasks n (get_or items next 0) × (is_done tasks.done n ≡ true)) mid =
-    subst (λ (t : ℕ). Finds items (λ n. Reads tasks n t × (is_done tasks.done n ≡ true)) mid) number c.in_ok-find_readers.ensures.ok in
-    let producers : Finds mid (λ n. Reads tasks (get_or items next 0) n × (is_on gone n ≡ true)) new =
-    subst (λ (t : ℕ). Finds mid (λ n. Reads tasks t n × (is_on gone n ≡ true)) new) number c.in_ok-find_producers.ensures.ok in (
-      c.find_producers.ensures.size ∙ c.find_readers.ensures.size ∙ c.loop-next.invariant.0,
-      underway_more tasks gone awaited items new next c.loop-next.invariant.1 lt
-          (finds_both items mid new (λ n. Reads tasks n (get_or items next 0) × (is_done tasks.done n ≡ true)) (λ n. Reads tasks (get_or items next 0) n × (is_on gone n ≡ true))
-          (LeadsTo tasks gone (get_or items next 0)) readers producers (λ n h. h) (λ n h. inl h) (λ n h. inr h)),
-    )
+    let mid = c.add_readers.new.again in
+    let new = c.add_producers.new.again in
+    let lt : next < length items = subst (λ (l : List ℕ). next < length l) c.as_slice.ensures.items c.loop-next-test.true in
+    let number : get_or c.as_slice-in-loop-next.result.now next 0 ≡ get_or items next 0 = ap (λ (l : List ℕ). get_or l next 0) c.as_slice-in-loop-next.ensures.items in
+    underway_more tasks gone c.args.awaited.now items new next c.count-count.ensures.inside c.loop-next.invariant lt
+    (subst (λ (t : ℕ). Finds items (LeadsTo tasks gone t) new) number
+    (led_on tasks gone c.args.awaited.now c.in_ok-lost.lost items mid new (get_or c.as_slice-in-loop-next.result.now next 0) c.in_ok-lost.ensures c.in_ok-add_readers.ensures c.in_ok-add_producers.ensures))
+
+pub add_wanted-requires-clause-lost : goal.add_wanted-requires-clause-lost
+add_wanted-requires-clause-lost c = made_inside c.args.gone.now c.in_ok-lost.lost (length c.args.tasks.now.done) c.in_ok-lost.ensures c.requires.gone
+
+pub loop-next-smaller : goal.loop-next-smaller
+loop-next-smaller c =
+    let items = c.loop-next.again in
+    let once : AllPairs ◌≢◌ items = subst (λ (l : List ℕ). AllPairs ◌≢◌ l) c.as_slice.ensures.items c.as_slice.ensures.once in
+    let most = few items (length c.args.tasks.now.done) once c.loop-next.invariant.inside in
+    let lt : c.loop-next.next < length items = subst (λ (l : List ℕ). c.loop-next.next < length l) c.as_slice.ensures.items c.loop-next-test.true in
+    omega (arith, lt, most)
 
 pub returns : goal.returns
 returns c =
-    let items = c.loop-next.search.items in
-    let end : length items ≤ c.loop-next.next = subst (λ (l : List ℕ). length l ≤ c.loop-next.next) c.found.ensures.items c.loop-next-test.false in
-    underway_last c.args.tasks.now c.args.gone.now c.args.awaited.now items c.loop-next.next c.into_marks.result.items c.loop-next.invariant.1 end
-    (c.into_marks.ensures.len ∙ c.loop-next.invariant.0) c.into_marks.ensures.found c.into_marks.ensures.marked
+    let items = c.loop-next.again in
+    let once : AllPairs ◌≢◌ items = subst (λ (l : List ℕ). AllPairs ◌≢◌ l) c.as_slice.ensures.items c.as_slice.ensures.once in
+    let end : length items ≤ c.loop-next.next = subst (λ (l : List ℕ). length l ≤ c.loop-next.next) c.as_slice.ensures.items c.loop-next-test.false in
+    let same = c.in_ok-from_slice.ensures.items ∙ c.as_slice-2.ensures.items in
+    subst (λ (l : List ℕ). AreReruns c.args.tasks.now c.args.gone.now c.args.awaited.now l) (sym same)
+    (underway_last c.args.tasks.now c.args.gone.now c.args.awaited.now items c.loop-next.next c.loop-next.invariant end once)
