@@ -4,7 +4,8 @@ use Rattle.estate.specs.Contents.{Contents, KeepsContents}
 use Rattle.job_json.specs.Texts.{printed_text}
 use Rattle.plan_model.specs.Plans.{committed_text}
 use Rattle.batch_commands.specs.Commits.{IsCommitOf}
-use Rattle.batch_commands.specs.Jobs.{IsAccepted, job_of}
+use Rattle.job_events.specs.Logs.{IsAccepted}
+use Rattle.batch_commands.specs.Jobs.{job_of}
 use Rattle.batch_commands.specs.declared.accepted_job.AcceptedJob.{AcceptedJob}
 use Rattle.batch_commands.proofs.OwnTables.{text_agrees}
 

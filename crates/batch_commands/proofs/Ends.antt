@@ -3,23 +3,25 @@ use Rattle.std.proofs.Common.{◌≡◌, inl, inr, ℕ, IsTrue, None, Result, Ok
 use Rattle.std.specs.Prelude.{IfErr, MatchResult}
 use Rattle.std.proofs.Math.Seq.{take-length}
 use Rattle.std.proofs.lemmas.List.{append-nil}
-use Rattle.estate.specs.Contents.{Contents}
+use Rattle.estate.specs.Changes.{Leads, Stays}
 use Rattle.estate.specs.Printed.{Printed, AddsPart}
 use Rattle.estate.specs.World.{World}
 use Rattle.estate.proofs.Laws.{leads_start}
 use Rattle.batch_commands.specs.Answers.{printed_line}
 use Rattle.batch_commands.specs.Causes.{HasFinished, LookCause, Outside, RunCause}
 use Rattle.batch_commands.specs.Commits.{MayCommit, StaysUnlessFailed}
-use Rattle.batch_commands.specs.Orders.{run_refusal}
-use Rattle.batch_commands.specs.Outcomes.{IsAnswered, IsMet, RunOutcome}
+use Rattle.batch_commands.specs.Orders.{run_refusal, view_of}
+use Rattle.batch_commands.specs.Outcomes.{IsAnswered, IsMet, LookOutcome, RunOutcome}
 use Rattle.batch_commands.specs.Printing.{Prints, PrintsOutcome, TriesToAdd}
 use Rattle.batch_commands.specs.Refusals.{answer_to}
 use Rattle.batch_commands.specs.Views.{ShowsAsked}
 use Rattle.batch_commands.specs.declared.answer.Answer.{Answer}
 use Rattle.batch_commands.specs.declared.answer.Answer.TheVariants as answer
+use Rattle.batch_commands.specs.declared.log_refusal.LogRefusal.TheVariants as log
 use Rattle.batch_commands.specs.declared.refusal.Refusal.{Refusal}
-use Rattle.batch_commands.specs.declared.refusal.Refusal.TheVariants.{Words, Job, IdTaken, SinkFault, InputFault, NoMemory}
+use Rattle.batch_commands.specs.declared.refusal.Refusal.TheVariants.{Words, Job, IdTaken, Log, SinkFault, InputFault, NoMemory}
 use Rattle.batch_commands.specs.declared.view.View.{View}
+use Rattle.batch_commands.specs.declared.view.View.TheVariants.{OfJob, Events}
 use Rattle.batch_commands.specs.declared.word_refusal.WordRefusal.{WordRefusal}
 use Rattle.batch_commands.specs.declared.word_refusal.WordRefusal.TheVariants as words
 
@@ -40,6 +42,10 @@ prints_refusal text before after (Words (words.NotBuilt what)) tries = tries
 prints_refusal text before after (Words words.NoMemory) tries = part_of (printed_line [] answer.NoMemory) before after tries
 prints_refusal text before after (Job fault) tries = tries
 prints_refusal text before after IdTaken tries = tries
+prints_refusal text before after (Log log.Fault) tries = tries
+prints_refusal text before after (Log (log.TooLarge asked)) tries = tries
+prints_refusal text before after (Log (log.BadLog block event)) tries = tries
+prints_refusal text before after (Log log.NoMemory) tries = part_of (printed_line [] answer.NoMemory) before after tries
 prints_refusal text before after SinkFault tries = tries
 prints_refusal text before after InputFault tries = tries
 prints_refusal text before after NoMemory tries = part_of (printed_line [] answer.NoMemory) before after tries
@@ -52,15 +58,6 @@ met_err : (fault : Refusal) (before now : ℕ) (refusal : Refusal) → IsMet {T 
     → IsAnswered (answer_to fault) before now (answer_to refusal)
 met_err fault before now refusal (inl is) = let same : fault ≡ refusal = cc is in inr (0, omega arith, ap answer_to same)
 met_err fault before now refusal (inr same) = inl same
-
--- a fault that was met is answered
-pub met_answered : (fault : Refusal) (before now : ℕ) (done : Answer) (result : Result (List ℕ) Refusal) (old new : Printed) (given : Answer)
-    → IsMet fault before now result → PrintsOutcome done result old new given → IsAnswered (answer_to fault) before now given
-met_answered fault before now done (Ok bytes) old new given met prints = inl (met_ok fault before now bytes met)
-met_answered fault before now done (Err refusal) old new given met (inl (is, tries)) =
-    subst (λ (a : Answer). IsAnswered (answer_to fault) before now a) (sym is) (met_err fault before now refusal met)
-met_answered fault before now done (Err refusal) old new given met (inr (is, tries)) =
-    subst (λ (a : Answer). IsAnswered (answer_to fault) before now a) (sym is) (inr (1, omega arith, refl))
 
 stays_answered : (old new : World) (given : Answer) → StaysUnlessFailed old new given → StaysUnlessFailed old new answer.NoMemory
 stays_answered old new given (inl stays) = inl stays
@@ -130,16 +127,74 @@ module _ (words : List (List ℕ)) (old new : Outside) (before after : Printed) 
     sink_met = inr (1, omega arith, refl);
   })
 
-module _ (asked : Result View WordRefusal) (old new : Contents) (before after : Printed) where
-  abbrev ShownAt : Answer → Type 0
-  ShownAt given = (text : List ℕ) × LookCause asked text old new given × Prints text before after given
+-- memory may run out at each look
+no_memory_cause : (asked : Result View WordRefusal) (old new : Outside) → LookCause asked [] old new answer.NoMemory
+no_memory_cause (Ok (OfJob view)) old new = tt
+no_memory_cause (Ok Events) old new = tt
+no_memory_cause (Err refused) old new = tt
+
+shown_cause : (asked : Result View WordRefusal) (text : List ℕ) (old new : Outside) → ShowsAsked asked old.inputs old.estate text → LookCause asked text old new answer.Shown
+shown_cause (Ok (OfJob view)) text old new shows = shows
+shown_cause (Ok Events) text old new shows = shows
+shown_cause (Err refused) text old new shows = absurd shows
+
+unprinted_cause : (asked : Result View WordRefusal) (text : List ℕ) (old new : Outside) → ShowsAsked asked old.inputs old.estate text → LookCause asked text old new answer.PrintFault
+unprinted_cause (Ok (OfJob view)) text old new shows = shows
+unprinted_cause (Ok Events) text old new shows = shows
+unprinted_cause (Err refused) text old new shows = absurd shows
+
+-- a look that had no memory for any line
+pub look_memory : (words : List (List ℕ)) (old : Outside) (before : Printed) → LookOutcome words old old before before answer.NoMemory
+look_memory words old before = record {
+  text = [];
+  cause = no_memory_cause (view_of words) old old;
+  prints = λ told. nothing_added (printed_line [] answer.NoMemory) before.bytes;
+  writes_nothing = leads_start old.estate;
+  input_met = inl refl;
+  log_met = inl refl;
+}
+
+module _ (words : List (List ℕ)) (old new : Outside) (before after : Printed) where
+  abbrev LookEndsAt : Answer → Type 0
+  LookEndsAt given = LookOutcome words old new before after given
 
   -- how a look ends, whose text or refusal was printed
   pub look_ends : (result : Result (List ℕ) Refusal) (given : Answer)
-      → MatchResult result (ShowsAsked asked old) (λ refusal. LookCause asked [] old new (answer_to refusal))
+      → MatchResult result (ShowsAsked (view_of words) old.inputs old.estate) (λ refusal. LookCause (view_of words) [] old new (answer_to refusal))
+      → Leads Stays old.estate new.estate
+      → IsMet InputFault old.inputs.faults new.inputs.faults result
+      → IsMet (Log log.Fault) old.estate.counts.log_faults new.estate.counts.log_faults result
       → PrintsOutcome answer.Shown result before after given
-      → ShownAt given
-  look_ends (Ok text) given why (inl (is, all)) = subst (λ (a : Answer). ShownAt a) (sym is) (text, why, all)
-  look_ends (Ok text) given why (inr (is, fails)) = subst (λ (a : Answer). ShownAt a) (sym is) (text, why, fails)
-  look_ends (Err refusal) given why (inl (is, tries)) = subst (λ (a : Answer). ShownAt a) (sym is) ([], why, prints_refusal [] before after refusal tries)
-  look_ends (Err refusal) given why (inr (is, tries)) = subst (λ (a : Answer). ShownAt a) (sym is) ([], tt, part_of (printed_line [] answer.NoMemory) before after tries)
+      → LookOutcome words old new before after given
+  look_ends (Ok text) given why stays input met (inl (is, all)) = subst (λ (a : Answer). LookEndsAt a) (sym is) (record {
+    text = text;
+    cause = shown_cause (view_of words) text old new why;
+    prints = all;
+    writes_nothing = stays;
+    input_met = inl (met_ok InputFault old.inputs.faults new.inputs.faults text input);
+    log_met = inl (met_ok (Log log.Fault) old.estate.counts.log_faults new.estate.counts.log_faults text met);
+  })
+  look_ends (Ok text) given why stays input met (inr (is, fails)) = subst (λ (a : Answer). LookEndsAt a) (sym is) (record {
+    text = text;
+    cause = unprinted_cause (view_of words) text old new why;
+    prints = fails;
+    writes_nothing = stays;
+    input_met = inl (met_ok InputFault old.inputs.faults new.inputs.faults text input);
+    log_met = inl (met_ok (Log log.Fault) old.estate.counts.log_faults new.estate.counts.log_faults text met);
+  })
+  look_ends (Err refusal) given why stays input met (inl (is, tries)) = subst (λ (a : Answer). LookEndsAt a) (sym is) (record {
+    text = [];
+    cause = why;
+    prints = prints_refusal [] before after refusal tries;
+    writes_nothing = stays;
+    input_met = met_err InputFault old.inputs.faults new.inputs.faults refusal input;
+    log_met = met_err (Log log.Fault) old.estate.counts.log_faults new.estate.counts.log_faults refusal met;
+  })
+  look_ends (Err refusal) given why stays input met (inr (is, tries)) = subst (λ (a : Answer). LookEndsAt a) (sym is) (record {
+    text = [];
+    cause = no_memory_cause (view_of words) old new;
+    prints = part_of (printed_line [] answer.NoMemory) before after tries;
+    writes_nothing = stays;
+    input_met = inr (1, omega arith, refl);
+    log_met = inr (1, omega arith, refl);
+  })

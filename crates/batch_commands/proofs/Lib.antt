@@ -1,5 +1,6 @@
 mod Committing
 mod Ends
+mod Eventful
 mod LookClauses
 mod OneCommit
 mod OwnTables

@@ -19,13 +19,14 @@ use Rattle.job_json.specs.declared.job.Job.{Job}
 use Rattle.plan_model.specs.declared.plan_fault.PlanFault.{PlanFault}
 use Rattle.batch_commands.specs.Causes.{HasFault, HasFinished, IsTaken, Outside, RunCause}
 use Rattle.batch_commands.specs.Commits.{Commits, IsCommitOf, IsFree, MayCommit, NameFree, NameTaken}
-use Rattle.batch_commands.specs.Jobs.{IsAccepted, fault_in, fault_of}
+use Rattle.job_events.specs.Logs.{IsAccepted}
+use Rattle.batch_commands.specs.Jobs.{fault_in, fault_of}
 use Rattle.batch_commands.specs.Orders.{order_refusal, run_refusal}
 use Rattle.batch_commands.specs.Outcomes.{RunOutcome}
 use Rattle.batch_commands.specs.Printing.{Prints}
 use Rattle.batch_commands.specs.Refusals.{job_answer, plan_fault, word_answer}
 use Rattle.batch_commands.specs.declared.answer.Answer.{Answer}
-use Rattle.batch_commands.specs.declared.answer.Answer.TheVariants.{Finished, Shown, Usage, JobRefused, SinkFault, InputFault, PrintFault, NotBuilt, NoMemory}
+use Rattle.batch_commands.specs.declared.answer.Answer.TheVariants.{Finished, Shown, Usage, JobRefused, LogFault, SinkFault, InputFault, PrintFault, BadLog, TooLarge, NotBuilt, NoMemory}
 use Rattle.batch_commands.specs.declared.job_refusal.JobRefusal.{JobRefusal}
 use Rattle.batch_commands.specs.declared.refused_kind.RefusedKind.{RefusedKind}
 use Rattle.batch_commands.specs.declared.unbuilt.Unbuilt.{Unbuilt}
@@ -116,6 +117,9 @@ module _ (refused : Option WordRefusal) (line : List ℕ) (old new : Outside) wh
   words_at : (r : WordRefusal) (given : Answer) → IsCaused given → refused ≡ Some r → Contains (word_answer r ∷ NoMemory ∷ []) given
   words_at r Finished c is = served r _ is c.0
   words_at r Shown c is = absurd c
+  words_at r LogFault c is = absurd c
+  words_at r (BadLog block event) c is = absurd c
+  words_at r (TooLarge kind number) c is = absurd c
   words_at r PrintFault c is = served r _ is c.0
   words_at r (Usage at kind) c is = told_words r (words_refused.Usage at kind) is c
   words_at r (JobRefused kind at name) c is = served r _ is c.0
@@ -136,6 +140,9 @@ module _ (refused : Option WordRefusal) (line : List ℕ) (old new : Outside) wh
       → Contains (job_answer fault ∷ InputFault ∷ NoMemory ∷ []) given
   refused_always fault Finished c none told has = let j = (c.1).is told in absurd (not_both old.inputs.job j.0 fault j.1 (has told))
   refused_always fault Shown c none told has = absurd c
+  refused_always fault LogFault c none told has = absurd c
+  refused_always fault (BadLog block event) c none told has = absurd c
+  refused_always fault (TooLarge kind number) c none told has = absurd c
   refused_always fault PrintFault c none told has = let j = (c.1).is told in absurd (not_both old.inputs.job j.0 fault j.1 (has told))
   refused_always fault (Usage at kind) c none told has = served (words_refused.Usage at kind) _ c none
   refused_always fault (JobRefused kind at name) c none told has =
@@ -150,6 +157,9 @@ module _ (refused : Option WordRefusal) (line : List ℕ) (old new : Outside) wh
       → Contains (NotBuilt unbuilt.Commit ∷ InputFault ∷ SinkFault ∷ NoMemory ∷ []) given
   taken_refused Finished c none name = absurd (not_finished old.inputs old.estate new.estate line c.1 name)
   taken_refused Shown c none name = absurd c
+  taken_refused LogFault c none name = absurd c
+  taken_refused (BadLog block event) c none name = absurd c
+  taken_refused (TooLarge kind number) c none name = absurd c
   taken_refused PrintFault c none name = absurd (not_finished old.inputs old.estate new.estate line c.1 name)
   taken_refused (Usage at kind) c none name = served (words_refused.Usage at kind) _ c none
   taken_refused (JobRefused kind at called) c none name = absurd (not_both old.inputs.job name.job _ name.accepted (c.1 name.told))
@@ -165,6 +175,9 @@ module _ (refused : Option WordRefusal) (line : List ℕ) (old new : Outside) wh
       → Contains (Finished ∷ NoMemory ∷ []) given
   completes before after Finished c prints none name reads commits shows = (0, omega arith, refl)
   completes before after Shown c prints none name reads commits shows = absurd c
+  completes before after LogFault c prints none name reads commits shows = absurd c
+  completes before after (BadLog block event) c prints none name reads commits shows = absurd c
+  completes before after (TooLarge kind number) c prints none name reads commits shows = absurd c
   completes before after PrintFault c prints none name reads commits shows = absurd (shows prints.0)
   completes before after (Usage at kind) c prints none name reads commits shows = served (words_refused.Usage at kind) _ c none
   completes before after (JobRefused kind at called) c prints none name reads commits shows =

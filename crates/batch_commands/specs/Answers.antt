@@ -8,11 +8,13 @@ use Rattle.job_json.specs.declared.job_fault_kind.JobFaultKind.TheVariants as te
 use Rattle.plan_model.specs.declared.plan_kind.PlanKind.{PlanKind}
 use Rattle.plan_model.specs.declared.plan_kind.PlanKind.TheVariants as plan
 use Rattle.batch_commands.specs.declared.answer.Answer.{Answer}
-use Rattle.batch_commands.specs.declared.answer.Answer.TheVariants.{Finished, Shown, Usage, JobRefused, SinkFault, InputFault, PrintFault, NotBuilt, NoMemory}
+use Rattle.batch_commands.specs.declared.answer.Answer.TheVariants.{Finished, Shown, Usage, JobRefused, LogFault, SinkFault, InputFault, PrintFault, BadLog, TooLarge, NotBuilt, NoMemory}
+use Rattle.batch_commands.specs.declared.quantity.Quantity.{Quantity}
+use Rattle.batch_commands.specs.declared.quantity.Quantity.TheVariants.{LogBytes}
 use Rattle.batch_commands.specs.declared.refused_kind.RefusedKind.{RefusedKind}
 use Rattle.batch_commands.specs.declared.refused_kind.RefusedKind.TheVariants.{Text, Plan}
 use Rattle.batch_commands.specs.declared.unbuilt.Unbuilt.{Unbuilt}
-use Rattle.batch_commands.specs.declared.unbuilt.Unbuilt.TheVariants.{Commit, Generate, Events, Workers}
+use Rattle.batch_commands.specs.declared.unbuilt.Unbuilt.TheVariants.{Commit, Generate, Workers}
 
 -- the exit status
 abbrev pub status_of : Answer → ℕ
@@ -20,9 +22,12 @@ status_of Finished = 0
 status_of Shown = 0
 status_of (Usage at kind) = 1
 status_of (JobRefused kind at name) = 2
+status_of LogFault = 4
 status_of SinkFault = 6
 status_of InputFault = 7
 status_of PrintFault = 8
+status_of (BadLog block event) = 9
+status_of (TooLarge what number) = 14
 status_of NoMemory = 15
 status_of (NotBuilt what) = 18
 
@@ -64,11 +69,14 @@ abbrev pub refused_word : RefusedKind → List ℕ
 refused_word (Text kind) = text_word kind
 refused_word (Plan kind) = plan_word kind
 
+-- the word for what has a limit
+abbrev pub quantity_word : Quantity → List ℕ
+quantity_word LogBytes = codes "log_bytes"
+
 -- the word for what is not built
 abbrev pub unbuilt_word : Unbuilt → List ℕ
 unbuilt_word Commit = codes "commit"
 unbuilt_word Generate = codes "generate"
-unbuilt_word Events = codes "events"
 unbuilt_word Workers = codes "workers"
 
 -- a node's number, or a dash
@@ -89,9 +97,14 @@ line_of job (Usage at kind) = codes "usage at=" ++ decimal at ++ codes " " ++ us
 line_of job (JobRefused kind at name) =
     codes "job-refused " ++ refused_word kind
     ++ codes " node=" ++ node_word at ++ codes " name=" ++ name_word name
+line_of job LogFault = codes "log-fault"
 line_of job SinkFault = codes "sink-fault"
 line_of job InputFault = codes "input-fault"
 line_of job PrintFault = []
+line_of job (BadLog block event) =
+    codes "bad-log block=" ++ decimal block ++ codes " event=" ++ decimal event
+line_of job (TooLarge what number) =
+    codes "too-large " ++ quantity_word what ++ codes "=" ++ decimal number
 line_of job (NotBuilt what) = codes "not-built " ++ unbuilt_word what
 line_of job NoMemory = codes "no-memory"
 

@@ -1,6 +1,6 @@
 -- Why each answer comes. Each fact on content holds where the object that it speaks of tells its content.
-use Rattle.std.specs.Prelude.{◌≡◌, ◌⊎◌, ⊤, ℕ, IsTrue, IsOk, IsSome, List, Option, Some, None, Result, Err}
-use Rattle.estate.specs.Changes.{Rose}
+use Rattle.std.specs.Prelude.{◌≡◌, ◌⊎◌, ⊤, ℕ, IsTrue, IsSome, List, Option, Some, None, Result, Ok, Err}
+use Rattle.estate.specs.Changes.{LogRose, Rose}
 use Rattle.estate.specs.Contents.{Contents}
 use Rattle.estate.specs.Holding.{job_under}
 use Rattle.estate.specs.World.{World}
@@ -8,13 +8,17 @@ use Rattle.estate.specs.declared.commit.Commit.{Commit}
 use Rattle.job_json.specs.declared.job.Job.{Job}
 use Rattle.batch_commands.specs.Answers.{printed_line}
 use Rattle.batch_commands.specs.Commits.{HasCommitted}
-use Rattle.batch_commands.specs.Jobs.{IsAccepted, fault_of}
-use Rattle.batch_commands.specs.Views.{ShowsAsked}
+use Rattle.job_events.specs.Logs.{IsAccepted}
+use Rattle.batch_commands.specs.Jobs.{fault_of}
+use Rattle.batch_commands.specs.Events.{IsBadLog, IsTooLong, ShowsLog}
+use Rattle.batch_commands.specs.Views.{ShowsJob}
 use Rattle.batch_commands.specs.declared.answer.Answer.{Answer}
-use Rattle.batch_commands.specs.declared.answer.Answer.TheVariants.{Finished, Shown, Usage, JobRefused, SinkFault, InputFault, PrintFault, NotBuilt, NoMemory}
+use Rattle.batch_commands.specs.declared.answer.Answer.TheVariants.{Finished, Shown, Usage, JobRefused, LogFault, SinkFault, InputFault, PrintFault, BadLog, TooLarge, NotBuilt, NoMemory}
 use Rattle.batch_commands.specs.declared.job_refusal.JobRefusal.{JobRefusal}
 use Rattle.batch_commands.specs.declared.unbuilt.Unbuilt.TheVariants as unbuilt
+use Rattle.batch_commands.specs.declared.job_view.JobView.{JobView}
 use Rattle.batch_commands.specs.declared.view.View.{View}
+use Rattle.batch_commands.specs.declared.view.View.TheVariants.{OfJob, Events}
 use Rattle.batch_commands.specs.declared.word_refusal.WordRefusal.{WordRefusal}
 use Rattle.batch_commands.specs.declared.word_refusal.WordRefusal.TheVariants as words
 
@@ -65,17 +69,39 @@ RunCause refused line old new (NotBuilt what) =
     (refused ≡ Some (words.NotBuilt what))
     ⊎ ((refused ≡ None) × (what ≡ unbuilt.Commit) × IsTaken old.inputs old.estate)
 RunCause refused line old new NoMemory = ⊤
-RunCause refused line old new Shown = ⊥
+RunCause refused line old new answer = ⊥
+
+-- Why a look at the job answers so, of which `text` is printed.
+abbrev pub JobCause : JobView → List ℕ → Contents → Contents → Answer → Type 0
+JobCause view text old new Shown = ShowsJob view old text
+JobCause view text old new PrintFault = ShowsJob view old text
+JobCause view text old new (JobRefused kind at name) =
+    HasFault old (record { kind = kind; node = at; name = name })
+JobCause view text old new InputFault = Rose old.faults new.faults
+JobCause view text old new NoMemory = ⊤
+JobCause view text old new answer = ⊥
+
+-- Why a look at the log's events answers so, of which `text` is printed.
+abbrev pub EventsCause : List ℕ → World → World → Answer → Type 0
+EventsCause text old new Shown = ShowsLog old text
+EventsCause text old new PrintFault = ShowsLog old text
+EventsCause text old new LogFault = LogRose old new
+EventsCause text old new (TooLarge what number) =
+    IsTrue old.told → IsTooLong old.holding.log what number
+EventsCause text old new (BadLog block event) =
+    IsTrue old.told → IsBadLog old.holding.log block event
+EventsCause text old new NoMemory = ⊤
+EventsCause text old new answer = ⊥
+
+-- Why a look answers so whose words are refused.
+abbrev pub WordCause : WordRefusal → Answer → Type 0
+WordCause refused (Usage at kind) = refused ≡ words.Usage at kind
+WordCause refused (NotBuilt what) = refused ≡ words.NotBuilt what
+WordCause refused NoMemory = ⊤
+WordCause refused answer = ⊥
 
 -- Why a look answers so. `asked` is what its words ask to see, and `text` is printed of it.
-abbrev pub LookCause : Result View WordRefusal → List ℕ → Contents → Contents → Answer → Type 0
-LookCause asked text old new Shown = ShowsAsked asked old text
-LookCause asked text old new PrintFault = ShowsAsked asked old text
-LookCause asked text old new (Usage at kind) = asked ≡ Err (words.Usage at kind)
-LookCause asked text old new (JobRefused kind at name) =
-    IsOk asked × HasFault old (record { kind = kind; node = at; name = name })
-LookCause asked text old new InputFault = IsOk asked × Rose old.faults new.faults
-LookCause asked text old new (NotBuilt what) = asked ≡ Err (words.NotBuilt what)
-LookCause asked text old new NoMemory = ⊤
-LookCause asked text old new Finished = ⊥
-LookCause asked text old new SinkFault = ⊥
+abbrev pub LookCause : Result View WordRefusal → List ℕ → Outside → Outside → Answer → Type 0
+LookCause (Ok (OfJob view)) text old new answer = JobCause view text old.inputs new.inputs answer
+LookCause (Ok Events) text old new answer = EventsCause text old.estate new.estate answer
+LookCause (Err refused) text old new answer = WordCause refused answer

@@ -9,7 +9,7 @@ use Rattle.estate.specs.declared.commit.Commit.{Commit}
 use Rattle.job_json.specs.Texts.{printed_text}
 use Rattle.job_json.specs.declared.job.Job.{Job}
 use Rattle.plan_model.specs.Plans.{committed_text}
-use Rattle.batch_commands.specs.Jobs.{IsAccepted}
+use Rattle.job_events.specs.Logs.{IsAccepted}
 use Rattle.batch_commands.specs.declared.answer.Answer.{Answer}
 use Rattle.batch_commands.specs.declared.answer.Answer.TheVariants.{SinkFault, NoMemory}
 

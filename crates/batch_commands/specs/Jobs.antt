@@ -1,5 +1,5 @@
--- Which texts are of an accepted job, and why the others are refused.
-use Rattle.std.specs.Prelude.{◌≡◌, ⊤, ℕ, List, [], Option, Some, Result, Ok, Err, slice_get}
+-- Why a text is of no accepted job.
+use Rattle.std.specs.Prelude.{◌≡◌, ⊤, ℕ, List, Option, Some, Result, Ok, Err, slice_get}
 use Rattle.std.specs.Option.{option_map}
 use Rattle.job_json.specs.Texts.{job_in}
 use Rattle.job_json.specs.declared.job.Job.{Job}
@@ -10,11 +10,6 @@ use Rattle.batch_commands.specs.declared.accepted_job.AcceptedJob.{AcceptedJob}
 use Rattle.batch_commands.specs.declared.job_refusal.JobRefusal.{JobRefusal}
 use Rattle.batch_commands.specs.declared.not_accepted.NotAccepted.{NotAccepted}
 use Rattle.batch_commands.specs.declared.not_accepted.NotAccepted.TheVariants.{Refused, NoMemory}
-
--- the text is of this job, whose plan has no fault
-pub record IsAccepted (text : List ℕ) (job : Job) : Type 0 where
-  pub is : job_in text ≡ Ok job
-  pub faultless : plan_faults job.plan ≡ []
 
 -- the first fault of a text, or of its job's plan
 abbrev pub fault_in : Result Job JobFault → Option JobRefusal

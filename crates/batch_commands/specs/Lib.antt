@@ -1,6 +1,7 @@
 pub mod Answers
 pub mod Causes
 pub mod Commits
+pub mod Events
 pub mod Jobs
 pub mod Orders
 pub mod Outcomes

@@ -1,5 +1,5 @@
 -- What the words of a command ask of each call.
-use Rattle.std.specs.Prelude.{ℕ, ◌==◌, Bool, false, ◌||◌, List, [], ◌∷◌, codes, Option, Some, None, Result, Ok, Err, if◌then◌else◌}
+use Rattle.std.specs.Prelude.{◌≡◌, ⊤, ℕ, ◌==◌, Bool, false, ◌||◌, List, [], ◌∷◌, codes, Option, Some, None, Result, Ok, Err, if◌then◌else◌}
 use Rattle.std.specs.Str.{bytes_eq}
 use Rattle.batch_words.specs.Words.{meaning}
 use Rattle.batch_words.specs.declared.order.Order.{Order}
@@ -8,6 +8,7 @@ use Rattle.batch_words.specs.declared.word_error.WordError.{WordError}
 use Rattle.batch_words.specs.declared.word_kind.WordKind.TheVariants.{OtherCall}
 use Rattle.batch_commands.specs.Refusals.{word_refusal}
 use Rattle.batch_commands.specs.declared.unbuilt.Unbuilt.TheVariants as unbuilt
+use Rattle.batch_commands.specs.declared.job_view.JobView.TheVariants as job
 use Rattle.batch_commands.specs.declared.view.View.{View}
 use Rattle.batch_commands.specs.declared.view.View.TheVariants as view
 use Rattle.batch_commands.specs.declared.word_refusal.WordRefusal.{WordRefusal}
@@ -35,15 +36,28 @@ run_refusal words = order_refusal (meaning words)
 abbrev pub order_view : Result Order WordError → Result View WordRefusal
 order_view (Ok (Run workers)) = Err other_call
 order_view (Ok (Generate n workers)) = Err other_call
-order_view (Ok Check) = Ok view.Check
-order_view (Ok Plan) = Ok view.Plan
-order_view (Ok Reference) = Ok view.Reference
-order_view (Ok Events) = Err (NotBuilt unbuilt.Events)
+order_view (Ok Check) = Ok (view.OfJob job.Check)
+order_view (Ok Plan) = Ok (view.OfJob job.Plan)
+order_view (Ok Reference) = Ok (view.OfJob job.Reference)
+order_view (Ok Events) = Ok view.Events
 order_view (Err e) = Err (word_refusal e)
+
+-- what is asked for is something of the job
+abbrev pub IsOfJob : Result View WordRefusal → Type 0
+IsOfJob (Ok (view.OfJob shown)) = ⊤
+IsOfJob asked = ⊥
 
 -- what the words ask to see, or why they are refused
 abbrev pub view_of : List (List ℕ) → Result View WordRefusal
 view_of words = order_view (meaning words)
+
+-- the words ask to see something of the job
+abbrev pub AsksOfJob : List (List ℕ) → Type 0
+AsksOfJob words = IsOfJob (view_of words)
+
+-- the words ask to see the events
+abbrev pub AsksForEvents : List (List ℕ) → Type 0
+AsksForEvents words = view_of words ≡ Ok view.Events
 
 -- the first word is a command that only shows something
 abbrev pub is_view : List (List ℕ) → Bool

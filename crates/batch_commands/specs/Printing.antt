@@ -5,7 +5,7 @@ use Rattle.estate.specs.Printed.{Printed, AddsPart}
 use Rattle.batch_commands.specs.Answers.{printed_line}
 use Rattle.batch_commands.specs.Refusals.{answer_to}
 use Rattle.batch_commands.specs.declared.answer.Answer.{Answer}
-use Rattle.batch_commands.specs.declared.answer.Answer.TheVariants.{Finished, Shown, Usage, JobRefused, SinkFault, InputFault, PrintFault, NotBuilt, NoMemory}
+use Rattle.batch_commands.specs.declared.answer.Answer.TheVariants.{Finished, Shown, Usage, JobRefused, LogFault, SinkFault, InputFault, PrintFault, BadLog, TooLarge, NotBuilt, NoMemory}
 use Rattle.batch_commands.specs.declared.refusal.Refusal.{Refusal}
 
 -- these bytes were added, and printing did not fail
@@ -30,8 +30,13 @@ Prints text old new PrintFault = FailsAt text old new
 Prints text old new (Usage at kind) = TriesToAdd (printed_line [] (Usage at kind)) old new
 Prints text old new (JobRefused kind at name) =
     TriesToAdd (printed_line [] (JobRefused kind at name)) old new
+Prints text old new LogFault = TriesToAdd (printed_line [] LogFault) old new
 Prints text old new SinkFault = TriesToAdd (printed_line [] SinkFault) old new
 Prints text old new InputFault = TriesToAdd (printed_line [] InputFault) old new
+Prints text old new (BadLog block event) =
+    TriesToAdd (printed_line [] (BadLog block event)) old new
+Prints text old new (TooLarge what number) =
+    TriesToAdd (printed_line [] (TooLarge what number)) old new
 Prints text old new (NotBuilt what) = TriesToAdd (printed_line [] (NotBuilt what)) old new
 Prints text old new NoMemory =
     IsTrue old.told → AddsPart (printed_line [] NoMemory) old.bytes new.bytes

@@ -1,6 +1,7 @@
 ghost use Rattle.std.specs.Prelude.{◌≡◌, IfOk, IfErr};
 ghost use Rattle.job_json.specs.Texts.{printed_text};
-ghost use Rattle.batch_commands.specs.Jobs.{IsAccepted, IsRefusalOf, job_of};
+ghost use Rattle.job_events.specs.Logs.{IsAccepted};
+ghost use Rattle.batch_commands.specs.Jobs.{IsRefusalOf, job_of};
 
 use crate::not_accepted::NotAccepted;
 use job_json::{print_job, read_job};

@@ -1,4 +1,4 @@
-use crate::{RefusedKind, Unbuilt};
+use crate::{Quantity, RefusedKind, Unbuilt};
 use batch_words::WordKind;
 use row_core::Bytes;
 
@@ -21,12 +21,25 @@ pub enum Answer {
         node: Option<u32>,
         name: Option<Bytes>,
     },
+    /// The log had a fault, which it counted.
+    LogFault,
     /// The sink had a fault, which it counted.
     SinkFault,
     /// The inputs had a fault, which they counted.
     InputFault,
     /// The line or the text could not be printed; a job that was run has its one commit.
     PrintFault,
+    /// The log is wrong at this event of this block, both from 0, and nowhere before: the event has no
+    /// spelling or is not legal after those before it, or the block is broken, and its event is 0.
+    BadLog {
+        block: u64,
+        event: u64,
+    },
+    /// This is more than the quantity's limit.
+    TooLarge {
+        what: Quantity,
+        number: u128,
+    },
     /// This is not built yet.
     NotBuilt {
         what: Unbuilt,

@@ -1,7 +1,7 @@
 ghost use Rattle.std.specs.Prelude.{◌≡◌, ◌++◌, [], IfOk};
-ghost use Rattle.batch_commands.specs.Answers.{usage_word, text_word, plan_word, refused_word, unbuilt_word, node_word, name_word, line_of, printed_line};
+ghost use Rattle.batch_commands.specs.Answers.{usage_word, text_word, plan_word, refused_word, quantity_word, unbuilt_word, node_word, name_word, line_of, printed_line};
 
-use crate::{Answer, RefusedKind, Unbuilt};
+use crate::{Answer, Quantity, RefusedKind, Unbuilt};
 use batch_words::WordKind;
 use job_json::JobFaultKind;
 use plan_model::PlanKind;
@@ -25,8 +25,11 @@ fn line_text(alloc: Global, job: &[u8], answer: &Answer) -> Result<Bytes, NoMemo
         Answer::Shown | Answer::PrintFault => Ok(Bytes::new(alloc)),
         Answer::Usage { at, kind } => usage(alloc, *at, *kind),
         Answer::JobRefused { kind, node, name } => job_refused(alloc, *kind, *node, name),
+        Answer::LogFault => Bytes::from_slice(alloc, b"log-fault"),
         Answer::SinkFault => Bytes::from_slice(alloc, b"sink-fault"),
         Answer::InputFault => Bytes::from_slice(alloc, b"input-fault"),
+        Answer::BadLog { block, event } => bad_log(alloc, *block, *event),
+        Answer::TooLarge { what, number } => too_large(alloc, *what, *number),
         Answer::NotBuilt { what } => joined(alloc, b"not-built ", unbuilt_word(*what)),
         Answer::NoMemory => Bytes::from_slice(alloc, b"no-memory"),
     }
@@ -55,6 +58,24 @@ fn job_refused(
     line.extend(node_word(alloc, node)?.as_slice())?;
     line.extend(b" name=")?;
     line.extend(name_word(name))?;
+    Ok(line)
+}
+
+fn bad_log(alloc: Global, block: u64, event: u64) -> Result<Bytes, NoMemory>
+    ensures { IfOk result (λ line. line ≡ line_of [] (Answer.BadLog block event)) }
+{
+    let mut line = joined(alloc, b"bad-log block=", block.to_string(alloc)?.as_bytes())?;
+    line.extend(b" event=")?;
+    line.extend(event.to_string(alloc)?.as_bytes())?;
+    Ok(line)
+}
+
+fn too_large(alloc: Global, what: Quantity, number: u128) -> Result<Bytes, NoMemory>
+    ensures { IfOk result (λ line. line ≡ line_of [] (Answer.TooLarge what number)) }
+{
+    let mut line = joined(alloc, b"too-large ", quantity_word(what))?;
+    line.extend(b"=")?;
+    line.extend(number.to_string(alloc)?.as_bytes())?;
     Ok(line)
 }
 
@@ -138,13 +159,20 @@ fn plan_word(kind: PlanKind) -> &'static [u8]
     }
 }
 
+fn quantity_word(what: Quantity) -> &'static [u8]
+    ensures { result.now ≡ quantity_word what }
+{
+    match what {
+        Quantity::LogBytes => b"log_bytes",
+    }
+}
+
 fn unbuilt_word(what: Unbuilt) -> &'static [u8]
     ensures { result.now ≡ unbuilt_word what }
 {
     match what {
         Unbuilt::Commit => b"commit",
         Unbuilt::Generate => b"generate",
-        Unbuilt::Events => b"events",
         Unbuilt::Workers => b"workers",
     }
 }

@@ -3,6 +3,7 @@ ghost use Rattle.batch_words.specs.declared.word_kind.WordKind.TheVariants.{Othe
 ghost use Rattle.batch_commands.specs.Orders.{is_view, run_refusal, view_of};
 
 use crate::Unbuilt;
+use crate::job_view::JobView;
 use crate::view::View;
 use crate::word_refusal::WordRefusal;
 use batch_words::{Order, WordKind, read_words};
@@ -26,10 +27,10 @@ pub fn read_view(words: &[String]) -> Result<View, WordRefusal>
     ensures { result ≡ view_of (map string_bytes words.now) }
 {
     match read_words(words)? {
-        Order::Check => Ok(View::Check),
-        Order::Plan => Ok(View::Plan),
-        Order::Reference => Ok(View::Reference),
-        Order::Events => Err(not_built(Unbuilt::Events)),
+        Order::Check => Ok(View::OfJob(JobView::Check)),
+        Order::Plan => Ok(View::OfJob(JobView::Plan)),
+        Order::Reference => Ok(View::OfJob(JobView::Reference)),
+        Order::Events => Ok(View::Events),
         Order::Run { .. } | Order::Generate { .. } => Err(other_call()),
     }
 }

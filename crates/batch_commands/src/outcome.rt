@@ -27,9 +27,12 @@ fn status(answer: &Answer) -> u8
         Answer::Finished | Answer::Shown => 0,
         Answer::Usage { .. } => 1,
         Answer::JobRefused { .. } => 2,
+        Answer::LogFault => 4,
         Answer::SinkFault => 6,
         Answer::InputFault => 7,
         Answer::PrintFault => 8,
+        Answer::BadLog { .. } => 9,
+        Answer::TooLarge { .. } => 14,
         Answer::NoMemory => 15,
         Answer::NotBuilt { .. } => 18,
     }

@@ -1,11 +1,12 @@
 ghost use Rattle.std.specs.Prelude.{◌≡◌};
-ghost use Rattle.batch_commands.specs.Refusals.{answer_to, estate_refusal, input_refusal, job_refusal};
-ghost use Rattle.batch_commands.specs.declared.refusal.Refusal.TheVariants.{NoMemory, Words};
+ghost use Rattle.batch_commands.specs.Refusals.{answer_to, estate_refusal, input_refusal, job_refusal, log_answer};
+ghost use Rattle.batch_commands.specs.declared.refusal.Refusal.TheVariants.{Log, NoMemory, Words};
 
 use crate::job_refusal::JobRefusal;
+use crate::log_refusal::LogRefusal;
 use crate::not_accepted::NotAccepted;
 use crate::word_refusal::WordRefusal;
-use crate::{Answer, Unbuilt};
+use crate::{Answer, Quantity, Unbuilt};
 use estate::{EstateError, InputError};
 use std::alloc::AllocError;
 
@@ -16,6 +17,7 @@ pub enum Refusal {
     Job(JobRefusal),
     /// The job's name has a commit.
     IdTaken,
+    Log(LogRefusal),
     SinkFault,
     InputFault,
     NoMemory,
@@ -35,8 +37,25 @@ impl From<Refusal> for Answer {
             Refusal::IdTaken => Answer::NotBuilt {
                 what: Unbuilt::Commit,
             },
+            Refusal::Log(refusal) => Answer::from(refusal),
             Refusal::SinkFault => Answer::SinkFault,
             Refusal::InputFault => Answer::InputFault,
+        }
+    }
+}
+
+impl From<LogRefusal> for Answer {
+    ghost from_gives = { λ refusal answer. answer ≡ log_answer refusal };
+
+    fn from(refusal: LogRefusal) -> Self {
+        match refusal {
+            LogRefusal::Fault => Answer::LogFault,
+            LogRefusal::TooLarge { asked } => Answer::TooLarge {
+                what: Quantity::LogBytes,
+                number: u128::from(asked),
+            },
+            LogRefusal::BadLog { block, event } => Answer::BadLog { block, event },
+            LogRefusal::NoMemory => Answer::NoMemory,
         }
     }
 }
@@ -46,6 +65,14 @@ impl From<WordRefusal> for Refusal {
 
     fn from(words: WordRefusal) -> Self {
         Refusal::Words(words)
+    }
+}
+
+impl From<LogRefusal> for Refusal {
+    ghost from_gives = { λ log refusal. refusal ≡ Log log };
+
+    fn from(log: LogRefusal) -> Self {
+        Refusal::Log(log)
     }
 }
 

@@ -5,8 +5,6 @@ pub enum Unbuilt {
     Commit,
     /// The generated job.
     Generate,
-    /// The events of the log.
-    Events,
     /// A run with workers.
     Workers,
 }

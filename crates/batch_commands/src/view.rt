@@ -1,10 +1,10 @@
+use crate::job_view::JobView;
+
 /// What a command prints that changes nothing.
 #[derive(Clone, Copy, Debug, PartialEq, Eq)]
 pub enum View {
-    /// How many nodes and sinks the job has.
-    Check,
-    /// The vertices of its plan.
-    Plan,
-    /// The text that it commits, found without its commit.
-    Reference,
+    /// Something of the job that the inputs tell.
+    OfJob(JobView),
+    /// The events of the log.
+    Events,
 }

@@ -1,38 +1,39 @@
 ghost use Rattle.std.specs.Prelude.{Ok, [], MatchResult};
-ghost use Rattle.estate.specs.Contents.{KeepsContents};
-ghost use Rattle.batch_commands.specs.Causes.{LookCause};
+ghost use Rattle.estate.specs.Changes.{Leads, Stays};
+ghost use Rattle.batch_commands.specs.Causes.{LookCause, outside};
 ghost use Rattle.batch_commands.specs.Outcomes.{IsMet};
 ghost use Rattle.batch_commands.specs.Refusals.{answer_to};
 ghost use Rattle.batch_commands.specs.Views.{Shows};
+ghost use Rattle.batch_commands.specs.declared.log_refusal.LogRefusal.TheVariants as log;
 
-use crate::accepted_job::read_accepted_job;
+use crate::events_text::events_text;
+use crate::job_text::job_text;
 use crate::refusal::Refusal;
-use crate::tables::{list_tables, text_over};
 use crate::view::View;
-use estate::Inputs;
-use plan_text::{check_text, plan_text};
+use estate::{Estate, Inputs};
 use row_core::Bytes;
 use std::alloc::Global;
 
-/// What is to be seen of the job that the inputs tell. `reference` reads the tables, the others the job's
-/// text alone.
-pub fn view_text<I: Inputs>(alloc: Global, view: View, inputs: &mut I) -> Result<Bytes, Refusal>
+/// What is to be seen: of the job, which the inputs tell, or of the estate's log.
+pub fn view_text<E: Estate, I: Inputs>(
+    alloc: Global,
+    view: View,
+    estate: &mut E,
+    inputs: &mut I,
+) -> Result<Bytes, Refusal>
     ensures why { MatchResult result
-        (Shows view (I.contents inputs.old))
+        (Shows view (I.contents inputs.old) (E.world estate.old))
         (λ refusal. LookCause (Ok view) []
-        (I.contents inputs.old) (I.contents inputs.new) (answer_to refusal)) }
-    ensures keeps { KeepsContents (I.contents inputs.old) (I.contents inputs.new) }
-    ensures met { IsMet Refusal.InputFault
+        (outside (I.contents inputs.old) (E.world estate.old))
+        (outside (I.contents inputs.new) (E.world estate.new)) (answer_to refusal)) }
+    ensures writes_nothing { Leads Stays (E.world estate.old) (E.world estate.new) }
+    ensures input_met { IsMet Refusal.InputFault
         (I.contents inputs.old).faults (I.contents inputs.new).faults result }
+    ensures log_met { IsMet (Refusal.Log log.Fault) (E.world estate.old).counts.log_faults
+        (E.world estate.new).counts.log_faults result }
 {
-    let text = inputs.job_text()?;
-    let job = read_accepted_job(alloc, &text)?;
     match view {
-        View::Check => Ok(check_text(alloc, &job.plan)?),
-        View::Plan => Ok(plan_text(alloc, &job.plan)?),
-        View::Reference => {
-            let tables = list_tables(alloc, inputs, &job.plan)?;
-            Ok(text_over(alloc, inputs, &job.plan, tables)?)
-        }
+        View::OfJob(view) => job_text(alloc, view, inputs),
+        View::Events => Ok(events_text(alloc, estate)?),
     }
 }

@@ -6,20 +6,20 @@ use std::test::Fail;
 use test_estates::{failing_at, numbers};
 
 // Tables by their names, each of some files.
-type Tables = &'static [(&'static str, &'static [&'static str])];
+pub type Tables = &'static [(&'static str, &'static [&'static str])];
 
 // Which calls fail of the estate, of the inputs and of the printer, by their numbers.
-type Failing = (&'static [u64], &'static [u64], &'static [u64]);
+pub type Failing = (&'static [u64], &'static [u64], &'static [u64]);
 
 // A line of words, the job's text, the tables, and which calls fail.
-type Given = (&'static str, &'static str, Tables, Failing);
+pub type Given = (&'static str, &'static str, Tables, Failing);
 
 // The status, what is printed, and the text of the commit.
 type Answer = (u8, &'static str, Option<&'static str>);
 
-const NONE: Failing = (&[], &[], &[]);
+pub const NONE: Failing = (&[], &[], &[]);
 
-const JOB: &str = "{\"job\":\"orders\",\"nodes\":[
+pub const JOB: &str = "{\"job\":\"orders\",\"nodes\":[
  {\"op\":\"source\",\"table\":\"orders\",\"columns\":[[\"id\",\"int\"],[\"city\",\"text\"],[\"amount\",\"int\"]]},
  {\"op\":\"filter\",\"input\":0,\"where\":[\"ge\",[\"col\",2],[\"int\",10]]},
  {\"op\":\"sink\",\"input\":1,\"name\":\"out\"}]}";
@@ -30,9 +30,9 @@ const PRINTED: &str =
 
 const ROWS: &str = "1,Bonn,20\n2,Kiel,5\n3,Bonn,10\n";
 
-const ORDERS: Tables = &[("orders", &[ROWS])];
+pub const ORDERS: Tables = &[("orders", &[ROWS])];
 
-const COMMITTED: &str = "sink out\n1,Bonn,20\n3,Bonn,10\n";
+pub const COMMITTED: &str = "sink out\n1,Bonn,20\n3,Bonn,10\n";
 
 // Orders of at least 20 by city, their number and sum: a filter, an inner join, an aggregate.
 const TOTALS: &str = "{\"job\":\"totals\",\"settings\":{\"max_parallelism\":8},\"nodes\":[
@@ -78,7 +78,7 @@ vertex 3 nodes=4,5 in=3:hash out=sink
 
 // A call of the crate.
 #[derive(Clone, Copy)]
-enum Entry {
+pub enum Entry {
     Run,
     Look,
     Serve,
@@ -161,7 +161,7 @@ fn call(
 }
 
 // The status of the call over the estate, and what it prints.
-fn called(
+pub fn called(
     alloc: Global,
     entry: Entry,
     estate: &mut MemEstate,
@@ -240,10 +240,6 @@ const SERVED: &[(Given, Answer)] = &[
     (
         ("generate 10", JOB, ORDERS, NONE),
         (18, "not-built generate\n", None),
-    ),
-    (
-        ("events", JOB, ORDERS, NONE),
-        (18, "not-built events\n", None),
     ),
     // faults of the inputs, of the sink, and of the printer after the commit and before it
     (

@@ -4,6 +4,8 @@
 #[cfg(test)]
 mod batch_commands_tests;
 #[cfg(test)]
+mod events_command_tests;
+#[cfg(test)]
 mod job_generator_tests;
 #[cfg(test)]
 mod job_json_tests;

@@ -10,7 +10,8 @@ use Rattle.estate.proofs.Laws.{leads_after, leads_stays, rose_later, told_on}
 use Rattle.batch_commands.specs.Answers.{printed_line}
 use Rattle.batch_commands.specs.declared.answer.Answer.TheVariants.{Finished}
 use Rattle.batch_commands.specs.Commits.{StaysUnlessFailed}
-use Rattle.batch_commands.specs.Jobs.{IsAccepted, job_of}
+use Rattle.job_events.specs.Logs.{IsAccepted}
+use Rattle.batch_commands.specs.Jobs.{job_of}
 use Rattle.batch_commands.specs.Refusals.{answer_to, estate_refusal}
 use Rattle.batch_commands.specs.declared.refusal.Refusal.{Refusal}
 use Rattle.batch_commands.proofs.Committing.{is_commit_of}
