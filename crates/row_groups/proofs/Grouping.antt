@@ -53,7 +53,7 @@ each_differ (row ∷ rows) = (
 )
 
 -- a row that is found among the others, once each or as they come
-found_each : (row : Row) (rows : List Row) → list_any (same_row row) (one_of_each rows) ≡ list_any (same_row row) rows
+pub found_each : (row : Row) (rows : List Row) → list_any (same_row row) (one_of_each rows) ≡ list_any (same_row row) rows
 found_each row [] = refl
 found_each row (first ∷ rows) = by (same_row row first) refl (found_each row rows)
   where
@@ -101,7 +101,7 @@ own_told : {X : Type 0} (f : List Row → X) (keys : List ℕ) (rows : List Row)
 own_told f keys rows row =
     ap f (with_more keys (key_of keys row) rows row ∙ ap (λ (b : Bool). rows_with keys (key_of keys row) rows ++ (if b then row ∷ [] else [])) (rows_strict.itself (key_of keys row)))
 
-none_with : (keys : List ℕ) (key : Row) (rows : List Row) → list_any (same_row key) (map (key_of keys) rows) ≡ false → rows_with keys key rows ≡ []
+pub none_with : (keys : List ℕ) (key : Row) (rows : List Row) → list_any (same_row key) (map (key_of keys) rows) ≡ false → rows_with keys key rows ≡ []
 none_with keys key [] none = refl
 none_with keys key (row ∷ rows) none =
     let apart : same_row (key_of keys row) key ≡ false = same-swapped (key_of keys row) key ∙ first_out (same_row key (key_of keys row)) (list_any (same_row key) (map (key_of keys) rows)) none in

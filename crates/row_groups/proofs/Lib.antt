@@ -2,4 +2,5 @@ mod Accumulating
 mod Grouping
 mod Holding
 mod Keys
+pub mod Laws
 mod Writing

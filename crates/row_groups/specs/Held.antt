@@ -1,8 +1,8 @@
 -- What the groups of an aggregate hold.
-use Rattle.std.specs.Prelude.{◌≡◌, ℕ, List, map}
+use Rattle.std.specs.Prelude.{◌≡◌, ℕ, List, length, map}
 use Rattle.std.specs.List.{AllByRecursion}
 use Rattle.row_core.specs.Bags.{one_of_each}
-use Rattle.row_core.specs.Encoding.{values_bytes}
+use Rattle.row_core.specs.Encoding.{values_bytes, ValueFits}
 use Rattle.row_core.specs.Hashing.{key_of}
 use Rattle.bag_laws.specs.Rows.{OneRow as Row}
 use Rattle.plan_model.specs.Operators.{rows_with}
@@ -15,6 +15,11 @@ use Rattle.row_groups.specs.declared.groups.Groups.{Groups}
 -- the keys of rows, each once
 abbrev pub keys_of : List ℕ → List Row → List Row
 keys_of keys rows = one_of_each (map (key_of keys) rows)
+
+-- so many values, each of which fits
+pub record KeyFits (n : ℕ) (key : Row) : Type 0 where
+  pub values : AllByRecursion ValueFits key
+  pub count : length key ≡ n
 
 -- the accumulators of a key's rows
 abbrev pub told_of : List ℕ → List Agg → List Row → Row → List Accumulator

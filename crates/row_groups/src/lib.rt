@@ -9,3 +9,4 @@ mod states;
 mod written;
 
 pub use groups::Groups;
+pub use key_bytes::put_key;

@@ -17,8 +17,8 @@ pub fn push_rows<C: Collector>(
     out: &mut C,
 ) -> Result<(), NoMemory>
     requires { AreTaken (ops_of steps.now) rows.now (C.width out.old) }
-    ensures width { OnOk result (C.width out.new ≡ C.width out.old) }
-    ensures kept { OnOk result (C.kept out.new ≡ C.kept out.old) }
+    ensures width { C.width out.new ≡ C.width out.old }
+    ensures kept { C.kept out.new ≡ C.kept out.old }
     ensures takes { OnOk result (Collects C.holds out.old out.new
         (chained (ops_of steps.now) rows.now)) }
 {

@@ -27,8 +27,8 @@ pub fn push_row<C: Collector>(
 ) -> Result<(), NoMemory>
     requires row { RowFits (row_seen row.now) }
     requires steps { StepsFit (length row.now) (ops_of steps.now) (C.width out.old) }
-    ensures width { OnOk result (C.width out.new ≡ C.width out.old) }
-    ensures kept { OnOk result (C.kept out.new ≡ C.kept out.old) }
+    ensures width { C.width out.new ≡ C.width out.old }
+    ensures kept { C.kept out.new ≡ C.kept out.old }
     ensures takes { OnOk result (Collects C.holds out.old out.new
         (chained (ops_of steps.now) (row_seen row.now ∷ []))) }
 {
@@ -68,8 +68,8 @@ fn push_exploded<C: Collector>(
     requires column { column < length row.now }
     requires row { RowFits (row_seen row.now) }
     requires steps { StepsFit (length row.now) (ops_of steps.now) (C.width out.old) }
-    ensures width { OnOk result (C.width out.new ≡ C.width out.old) }
-    ensures kept { OnOk result (C.kept out.new ≡ C.kept out.old) }
+    ensures width { C.width out.new ≡ C.width out.old }
+    ensures kept { C.kept out.new ≡ C.kept out.old }
     ensures takes { OnOk result (Collects C.holds out.old out.new
         (chained (ops_of steps.now) (exploded column separator (row_seen row.now ∷ [])))) }
 {
@@ -106,8 +106,8 @@ fn push_pieces<'b, C: Collector>(
     requires pieces { All (λ piece. RowFits (slice_set (row_seen row.now) column (text_value piece)))
         (pieces separator text.now) }
     requires steps { StepsFit (length row.now) (ops_of steps.now) (C.width out.old) }
-    ensures width { OnOk result (C.width out.new ≡ C.width out.old) }
-    ensures kept { OnOk result (C.kept out.new ≡ C.kept out.old) }
+    ensures width { C.width out.new ≡ C.width out.old }
+    ensures kept { C.kept out.new ≡ C.kept out.old }
     ensures takes { OnOk result (Collects C.holds out.old out.new (chained (ops_of steps.now)
         (map (λ piece. slice_set (row_seen row.now) column (text_value piece))
         (pieces separator text.now)))) }

@@ -1,6 +1,6 @@
 -- What is read at an input can be encoded, in whatever order its cells are read.
-use Rattle.std.proofs.Common.{◌≡◌, ℕ, zero, suc, ◌+◌, ◌<◌, ◌≤◌, ◌&&◌, nat_le, Bool, true, false, All, List, [], ◌∷◌, ◌++◌, length, map, take, get_or, refl, sym, ◌∙◌, ap, subst, arith}
-use Rattle.std.specs.List.{AllByRecursion, flat_map}
+use Rattle.std.proofs.Common.{◌≡◌, ℕ, zero, suc, ◌+◌, ◌<◌, ◌≤◌, ◌&&◌, nat_eq, nat_le, Bool, true, false, All, List, [], ◌∷◌, ◌++◌, length, map, take, get_or, refl, sym, ◌∙◌, ap, subst, arith}
+use Rattle.std.specs.List.{AllByRecursion, flat_map, list_all}
 use Rattle.std.proofs.lemmas.Bool.{eqb-true, false≢true, leb-true}
 use Rattle.std.proofs.lemmas.List.{append-nil, take_more}
 use Rattle.std.proofs.lemmas.List.Concat.{flat_map-append}
@@ -11,7 +11,7 @@ use Rattle.bag_laws.specs.Rows.{OneRow as Row}
 use Rattle.bag_laws.proofs.Laws.{SameBag-append, append_swap}
 use Rattle.operator_laws.specs.Texts.{ValuesFit}
 use Rattle.operator_laws.proofs.Laws.{node_fits}
-use Rattle.plan_model.specs.Checks.{takes}
+use Rattle.plan_model.specs.Checks.{takes, widths_agree}
 use Rattle.plan_model.specs.Nodes.{Alike, HasItsWidth, IsGood, bag_widths}
 use Rattle.plan_model.specs.Operators.{is_source}
 use Rattle.plan_model.specs.Plans.{Bag, bag_of}
@@ -79,6 +79,17 @@ input_fits op input reads narrow =
     let all = of_cells op input.width reads narrow input.cells.items (recursion_from_All (HasWidth input.width) input.cells.items input.wide) in
     record { narrow = narrow; wide = λ k d lt. (all k d lt).0; fit = λ k d lt. (all k d lt).1 }
 
+-- rows that can be encoded are rows of their width
+pub rows_of_width : (bag : Bag) → IsEncodable bag → AllByRecursion (RowOf bag.width) bag.rows
+rows_of_width bag fit =
+    each bag.rows (recursion_from_All (λ row. length row ≡ bag.width) bag.rows fit.wide) (recursion_from_All (λ row. AllByRecursion ValueFits row) bag.rows fit.fit)
+  where
+    each : (rows : List Row) → AllByRecursion (λ row. length row ≡ bag.width) rows → AllByRecursion (λ row. AllByRecursion ValueFits row) rows → AllByRecursion (RowOf bag.width) rows
+    each [] wide fits = tt
+    each (row ∷ rows) wide fits =
+        let narrow = fit.narrow in
+        (record { fits = record { width = omega (arith, wide.0, narrow); values = fits.0 }; wide = wide.0 }, each rows wide.1 fits.1)
+
 -- what is no source reads no files
 pub reads_none : (op : Op) (width : ℕ) → is_source op ≡ false → ReadsFiles op width
 reads_none (Source table columns) width other = absurd (false≢true (sym other))
@@ -144,6 +155,23 @@ two_items (x ∷ y ∷ z ∷ l) a b two is is' = absurd (omega (arith, two))
 pub first_read : (op : Op) (builds : List TaskInput) (a : TaskInput) → 0 < length builds → a ≡ get_or builds 0 a → build_read op builds ≡ input_bag op a
 first_read op [] a some is = absurd (omega (arith, some))
 first_read op (x ∷ l) a some is = ap (input_bag op) (sym is)
+
+-- the inputs of a union have one width
+pub union_widths : (op : Op) (inputs : List TaskInput) (first : TaskInput) → op ≡ Union → IsGood op (map (input_bag op) inputs) → first ≡ get_or inputs 0 first
+    → All (λ input. input.width ≡ first.width) inputs
+union_widths op [] first union good is = All-nil (λ input. input.width ≡ first.width)
+union_widths op (x ∷ xs) first union good is =
+    All-from_recursion (λ input. input.width ≡ first.width) (x ∷ xs) (each (x ∷ xs) (subst (λ (o : Op). widths_agree o (bag_widths (map (input_bag op) (x ∷ xs))) ≡ true) union good.agree))
+  where
+    both : (a b : Bool) → (a && b) ≡ true → (a ≡ true) × (b ≡ true)
+    both true b e = (refl, e)
+    both false b e = absurd (false≢true e)
+
+    each : (l : List TaskInput) → list_all (nat_eq x.width) (bag_widths (map (input_bag op) l)) ≡ true → AllByRecursion (λ input. input.width ≡ first.width) l
+    each [] all = tt
+    each (input ∷ l) all =
+        let (here, rest) = both (nat_eq x.width input.width) (list_all (nat_eq x.width) (bag_widths (map (input_bag op) l))) all in
+        (sym (eqb-true x.width input.width here) ∙ ap (λ (i : TaskInput). i.width) (sym is), each l rest)
 
 -- what a union gives
 pub united : (op : Op) (inputs : List TaskInput) (first : TaskInput) (rows : List Row) → op ≡ Union → 0 < length inputs → first ≡ get_or inputs 0 first → SameBag rows (flat_map (input_rows op) inputs)

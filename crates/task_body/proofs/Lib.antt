@@ -2,5 +2,4 @@ mod Alike
 mod Inputs
 mod Heads
 mod Chains
-mod Cuts
 mod Parts

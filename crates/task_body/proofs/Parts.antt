@@ -1,9 +1,11 @@
 -- The outputs of a task take its rows, and what is cut for each of them is what the task may give.
-use Rattle.std.proofs.Common.{◌≡◌, ℕ, zero, suc, ◌+◌, ◌<◌, ◌≤◌, ◌==◌, ◌&&◌, nat_eq, nat_lt, Bool, true, false, ◌⊎◌, inl, inr, All, List, [], ◌∷◌, ◌++◌, length, map, filter, get_or, Option, Some, None, slice_get, refl, sym, ◌∙◌, ap, subst, arith, cond, if◌then◌else◌}
+use Rattle.std.proofs.Common.{◌≡◌, ℕ, zero, suc, ◌+◌, ◌<◌, ◌≤◌, ◌==◌, ◌&&◌, nat_eq, nat_lt, Bool, true, false, ◌⊎◌, inl, inr, All, IsTrue, List, [], ◌∷◌, ◌++◌, length, map, filter, get_or, Option, Some, None, slice_get, refl, sym, ◌∙◌, ap, subst, arith, cond, if◌then◌else◌}
 use Rattle.std.specs.Arc.{arc_value}
 use Rattle.std.specs.List.{AllByRecursion, AllZip, list_all, range_with_len}
 use Rattle.std.specs.Option.{option_map_or}
-use Rattle.std.proofs.lemmas.Bool.{eqb-true, eqb-false, false≢true, ltb-true}
+use Rattle.std.proofs.lemmas.Bool.{cases_lt, eqb-true, eqb-false, false≢true}
+use Rattle.std.proofs.lemmas.Bool.Decides.{nat_tests}
+use Rattle.std.proofs.lemmas.List.{get_or_past}
 use Rattle.std.proofs.lemmas.Option.{slice_get_within}
 use Rattle.std.proofs.lemmas.List.Elements.{All-from_recursion}
 use Rattle.bag_laws.specs.Rows.{OneRow as Row}
@@ -14,16 +16,19 @@ use Rattle.plan_model.specs.declared.node.Node.{Node}
 use Rattle.plan_model.specs.declared.op.Op.{Op}
 use Rattle.plan_model.specs.declared.op.Op.TheVariants.{Source, Filter, Project, Explode, Union, Aggregate, Distinct, Join, Sink}
 use Rattle.plan_model.specs.declared.ship.Ship.{Ship}
-use Rattle.plan_model.specs.declared.ship.Ship.TheVariants.{Forward, Rebalance}
+use Rattle.plan_model.specs.declared.ship.Ship.TheVariants.{Forward, Hash, Rebalance, Broadcast}
 use Rattle.plan_model.proofs.Laws.{good_node, widths_here}
 use Rattle.row_core.specs.Bags.{SameBag}
-use Rattle.task_parts.specs.Tasks.{IsCut}
+use Rattle.row_cells.specs.Cutting.{ships_to, IsCutInto}
+use Rattle.row_view.specs.Encoded.{Spells}
+use Rattle.rect_cover.specs.Cells.{gathered}
+use Rattle.task_parts.specs.Tasks.{hash_cell, GoesBy, IsCut}
 use Rattle.task_parts.proofs.Laws.{by_bags}
 use Rattle.vertex_builder.specs.Edges.{consumer_edges, edge_ship, edges_from, edges_into, edges_of, op_ship, ship_into, side_columns}
 use Rattle.vertex_builder.specs.Vertices.{cells_of, last_of, text_output, vertex_output, vertex_outputs}
 use Rattle.vertex_builder.specs.declared.edge.Edge.{Edge}
 use Rattle.vertex_builder.specs.declared.vertex_output.VertexOutput.{VertexOutput}
-use Rattle.task_body.specs.Outputs.{IsCutInto, MayGo, TakesRows}
+use Rattle.task_body.specs.Outputs.{TakesRows}
 use Rattle.task_body.specs.Parts.{Gives, SpellRows}
 use Rattle.task_body.specs.TaskRows.{task_rows, task_width}
 use Rattle.task_body.specs.declared.task.Task.{Task}
@@ -114,30 +119,35 @@ both_second : (a b : Bool) → (a && b) ≡ true → b ≡ true
 both_second true b e = e
 both_second false b e = absurd (false≢true e)
 
-below_all : (width : ℕ) (columns : List ℕ) → list_all (λ column. nat_lt column width) columns ≡ true → AllByRecursion (λ column. column < width) columns
-below_all width [] e = tt
-below_all width (column ∷ columns) e =
-    let rest = list_all (λ c. nat_lt c width) columns in
-    (ltb-true column width (both_first (nat_lt column width) rest e), below_all width columns (both_second (nat_lt column width) rest e))
+both_true : (a b : Bool) → a ≡ true → b ≡ true → (a && b) ≡ true
+both_true true b e f = f
+both_true false b e f = e
 
-below_range : (a n width : ℕ) → a + n ≤ width → AllByRecursion (λ column. column < width) (range_with_len a n)
-below_range a zero width le = tt
-below_range a (suc n) width le = (omega (arith, le), below_range (a + 1) n width (omega (arith, le)))
+lt_true : (m n : ℕ) → m < n → nat_lt m n ≡ true
+lt_true m n lt = grind (arith, nat_tests)
+
+lt_false : (m n : ℕ) → n ≤ m → nat_lt m n ≡ false
+lt_false m n le = grind (arith, nat_tests)
+
+below_range : (a n width : ℕ) → a + n ≤ width → list_all (λ column. nat_lt column width) (range_with_len a n) ≡ true
+below_range a zero width le = refl
+below_range a (suc n) width le =
+    both_true (nat_lt a width) (list_all (λ column. nat_lt column width) (range_with_len (a + 1) n)) (lt_true a width (omega (arith, le))) (below_range (a + 1) n width (omega (arith, le)))
 
 below_side : (left right place width : ℕ) (keys : List (ℕ × ℕ)) → list_all (λ pair. nat_lt pair.0 left && nat_lt pair.1 right) keys ≡ true
-    → (place ≡ 0 → left ≡ width) → ((place ≡ 0 → ⊥) → right ≡ width) → AllByRecursion (λ column. column < width) (side_columns place keys)
-below_side left right place width [] e first second = tt
+    → (place ≡ 0 → left ≡ width) → ((place ≡ 0 → ⊥) → right ≡ width) → list_all (λ column. nat_lt column width) (side_columns place keys) ≡ true
+below_side left right place width [] e first second = refl
 below_side left right place width (pair ∷ keys) e first second =
     let here = nat_lt pair.0 left && nat_lt pair.1 right in
     let rest = list_all (λ pair. nat_lt pair.0 left && nat_lt pair.1 right) keys in
-    let both = both_first here rest e in (
-      by (place == 0) refl (ltb-true pair.0 left (both_first (nat_lt pair.0 left) (nat_lt pair.1 right) both)) (ltb-true pair.1 right (both_second (nat_lt pair.0 left) (nat_lt pair.1 right) both)),
-      below_side left right place width keys (both_second here rest e) first second,
-    )
+    let both = both_first here rest e in
+    both_true _ _
+    (by (place == 0) refl (both_first (nat_lt pair.0 left) (nat_lt pair.1 right) both) (both_second (nat_lt pair.0 left) (nat_lt pair.1 right) both))
+    (below_side left right place width keys (both_second here rest e) first second)
   where
-    by : (b : Bool) → (place == 0) ≡ b → pair.0 < left → pair.1 < right → (if b then pair.0 else pair.1) < width
-    by true is lt more = subst (λ (n : ℕ). pair.0 < n) (first (eqb-true place 0 is)) lt
-    by false is lt more = subst (λ (n : ℕ). pair.1 < n) (second (eqb-false place 0 is)) more
+    by : (b : Bool) → (place == 0) ≡ b → nat_lt pair.0 left ≡ true → nat_lt pair.1 right ≡ true → nat_lt (if b then pair.0 else pair.1) width ≡ true
+    by true is lt more = subst (λ (n : ℕ). nat_lt pair.0 n ≡ true) (first (eqb-true place 0 is)) lt
+    by false is lt more = subst (λ (n : ℕ). nat_lt pair.1 n ≡ true) (second (eqb-false place 0 is)) more
 
 one_place : (ins : List ℕ) (place from : ℕ) → nat_eq (length ins) 1 ≡ true → slice_get ins place ≡ Some from → place ≡ 0
 one_place ins place from one is = let lt = slice_get_within ins place from is in let long = eqb-true (length ins) 1 one in omega arith
@@ -148,29 +158,28 @@ two_places ins place from two is other = let lt = slice_get_within ins place fro
 -- an operator wants its rows by columns that they have
 op_goes : (op : Op) (ws ins : List ℕ) (count place from : ℕ) → takes op (length ins) ≡ true → columns_fit op (input_widths ws ins) ≡ true → slice_get ins place ≡ Some from
     → (cells_of count (op_ship op place (get_or ws from 0)) ≡ 1 ⊎ (cells_of count (op_ship op place (get_or ws from 0)) ≡ count))
-    × MayGo (get_or ws from 0) (cells_of count (op_ship op place (get_or ws from 0))) (op_ship op place (get_or ws from 0))
+    × IsTrue (ships_to (get_or ws from 0) (cells_of count (op_ship op place (get_or ws from 0))) (op_ship op place (get_or ws from 0)))
 op_goes (Source table columns) ws ins count place from number fit is = (inl refl, refl)
 op_goes (Filter test) ws ins count place from number fit is = (inl refl, refl)
 op_goes (Project exprs) ws ins count place from number fit is = (inl refl, refl)
 op_goes (Explode column separator) ws ins count place from number fit is = (inl refl, refl)
-op_goes Union ws ins count place from number fit is = (inr refl, tt)
+op_goes Union ws ins count place from number fit is = (inr refl, refl)
 op_goes (Aggregate keys aggs) ws ins count place from number fit is =
     let width = get_or ws from 0 in
     let zero_is = one_place ins place from number is in
     let same : get_or (input_widths ws ins) 0 0 ≡ width = ap (λ (n : ℕ). get_or (input_widths ws ins) n 0) (sym zero_is) ∙ width_from ws ins place from is in
     let fits = both_first (list_all (λ key. nat_lt key (get_or (input_widths ws ins) 0 0)) keys) _ fit in
-    (inr refl, All-from_recursion (λ column. column < width) keys (below_all width keys (subst (λ (n : ℕ). list_all (λ key. nat_lt key n) keys ≡ true) same fits)))
+    (inr refl, subst (λ (n : ℕ). list_all (λ key. nat_lt key n) keys ≡ true) same fits)
 op_goes Distinct ws ins count place from number fit is =
     let width = get_or ws from 0 in
-    (inr refl, All-from_recursion (λ column. column < width) (range_with_len 0 width) (below_range 0 width width (omega arith)))
+    (inr refl, below_range 0 width width (omega arith))
 op_goes (Join kind keys) ws ins count place from number fit is =
     let width = get_or ws from 0 in
     let here = width_from ws ins place from is in (
       inr refl,
-      All-from_recursion (λ column. column < width) (side_columns place keys)
-          (below_side (get_or (input_widths ws ins) 0 0) (get_or (input_widths ws ins) 1 0) place width keys fit
+      below_side (get_or (input_widths ws ins) 0 0) (get_or (input_widths ws ins) 1 0) place width keys fit
           (λ first. ap (λ (n : ℕ). get_or (input_widths ws ins) n 0) (sym first) ∙ here)
-          (λ other. ap (λ (n : ℕ). get_or (input_widths ws ins) n 0) (sym (two_places ins place from number is other)) ∙ here)),
+          (λ other. ap (λ (n : ℕ). get_or (input_widths ws ins) n 0) (sym (two_places ins place from number is other)) ∙ here),
     )
 op_goes (Sink name) ws ins count place from number fit is = (inl refl, refl)
 
@@ -185,11 +194,11 @@ module _ (nodes : List Node) (good : plan_faults nodes ≡ []) (most : ℕ) (som
       ship_is b e = ap (λ (o : Option Node). option_map_or (λ n. ship_into n edge.place (get_or (widths_of nodes) edge.from 0)) o Forward) is.at
           ∙ ap (λ (c : Bool). if c then Rebalance else op_ship is.node.op edge.place (get_or (widths_of nodes) edge.from 0)) e
 
-      to : (ship : Ship) → edge_ship nodes edge ≡ ship → 0 < cells_of most ship → MayGo (get_or (widths_of nodes) edge.from 0) (cells_of most ship) ship
+      to : (ship : Ship) → edge_ship nodes edge ≡ ship → 0 < cells_of most ship → IsTrue (ships_to (get_or (widths_of nodes) edge.from 0) (cells_of most ship) ship)
           → TakesRows (get_or (widths_of nodes) edge.from 0) (vertex_output nodes most edge)
-      to ship e cells may = record {
+      to ship e cells ships = record {
         some = subst (λ (s : Ship). 0 < cells_of most s) (sym e) cells;
-        may = subst (λ (s : Ship). MayGo (get_or (widths_of nodes) edge.from 0) (cells_of most s) s) (sym e) may;
+        ships = subst (λ (s : Ship). IsTrue (ships_to (get_or (widths_of nodes) edge.from 0) (cells_of most s) s)) (sym e) ships;
       }
 
       some_cells : (n : ℕ) → (n ≡ 1) ⊎ (n ≡ most) → 0 < n
@@ -197,7 +206,7 @@ module _ (nodes : List Node) (good : plan_faults nodes ≡ []) (most : ℕ) (som
       some_cells n (inr e) = omega (arith, e, some)
 
       by : (b : Bool) → is.node.rebalance ≡ b → TakesRows (get_or (widths_of nodes) edge.from 0) (vertex_output nodes most edge)
-      by true e = to Rebalance (ship_is true e) some tt
+      by true e = to Rebalance (ship_is true e) some refl
       by false e =
           let it = good_node nodes edge.into is.node good is.at in
           let ws = widths_of nodes in
@@ -220,7 +229,7 @@ module _ (nodes : List Node) (good : plan_faults nodes ≡ []) (most : ℕ) (som
       )
 
       by : (b : Bool) → AllByRecursion (TakesRows (get_or (widths_of nodes) last 0)) (if b then text_output ∷ [] else map (vertex_output nodes most) (consumer_edges nodes last))
-      by true = (record { some = omega arith; may = refl }, tt)
+      by true = (record { some = omega arith; ships = refl }, tt)
       by false = each (consumer_edges nodes last) edges
 
 pub task_takes : (task : Task) → All (TakesRows (task_width task)) task.vertex.outputs
@@ -231,11 +240,34 @@ task_takes task =
 
 -- ---- what is cut is what the task may give
 
+-- cells from a number on have no rows
+abbrev below : ℕ → (ℕ → List Row) → ℕ → List Row
+below n cells c = if nat_lt c n then cells c else []
+
+below_is : (n : ℕ) (cells : ℕ → List Row) (c : ℕ) → c < n → below n cells c ≡ cells c
+below_is n cells c lt = ap (λ (b : Bool). if b then cells c else []) (lt_true c n lt)
+
+gathered_same : (n : ℕ) (cells others : ℕ → List Row) → ((c : ℕ) → c < n → others c ≡ cells c) → gathered n others ≡ gathered n cells
+gathered_same zero cells others same = refl
+gathered_same (suc n) cells others same = λ i. gathered_same n cells others (λ c lt. same c (omega (arith, lt))) i ++ same n (omega arith) i
+
+goes_below : (ship : Ship) (attempt count n : ℕ) (cells : ℕ → List Row) → GoesBy ship attempt count n cells → GoesBy ship attempt count n (below count cells)
+goes_below (Hash columns) attempt count n cells goes = λ cell lt. subst (All (λ row. hash_cell columns count row ≡ cell)) (sym (below_is count cells cell lt)) (goes cell lt)
+goes_below Rebalance attempt count n cells goes = λ cell lt. ap (λ (rows : List Row). length rows) (below_is count cells cell lt) ∙ goes cell lt
+goes_below Forward attempt count n cells goes = goes
+goes_below Broadcast attempt count n cells goes = tt
+
+cut_below : (attempt : ℕ) (output : VertexOutput) (rows : List Row) (cells : ℕ → List Row) → IsCut attempt output rows cells → IsCut attempt output rows (below output.cells cells)
+cut_below attempt output rows cells cut = record {
+  sum = subst (λ (all : List Row). SameBag all rows) (sym (gathered_same output.cells cells (below output.cells cells) (below_is output.cells cells))) cut.sum;
+  goes = goes_below output.ship attempt output.cells (length rows) cells cut.goes;
+}
+
 module _ (width attempt : ℕ) (rows : List Row) where
   abbrev AreCut : List VertexOutput → List (List (List ℕ)) → Type 0
-  AreCut outputs edges = AllZip (IsCutInto width attempt rows) outputs edges
+  AreCut outputs edges = AllZip (λ output bytes. IsCutInto width attempt output rows bytes) outputs edges
 
-  pub cut_push : (outputs : List VertexOutput) (edges : List (List (List ℕ))) (output : VertexOutput) (edge : List (List ℕ)) → AreCut outputs edges → IsCutInto width attempt rows output edge
+  pub cut_push : (outputs : List VertexOutput) (edges : List (List (List ℕ))) (output : VertexOutput) (edge : List (List ℕ)) → AreCut outputs edges → IsCutInto width attempt output rows edge
       → AreCut (outputs ++ output ∷ []) (edges ++ edge ∷ [])
   cut_push [] [] output edge cut one = (one, tt)
   cut_push [] (other ∷ edges) output edge cut one = absurd cut
@@ -248,11 +280,21 @@ module _ (width attempt : ℕ) (rows : List Row) where
   counted (output ∷ outputs) [] cut = absurd cut
   counted (output ∷ outputs) (edge ∷ edges) cut = λ i. cut.0.count i ∷ counted outputs edges cut.1 i
 
+  -- what the bytes of an edge's cells spell, and those that it lacks
+  spelled_one : (output : VertexOutput) (edge : List (List ℕ)) (cut : IsCutInto width attempt output rows edge) (c : ℕ) → Spells width (get_or edge c []) (below output.cells cut.cells c)
+  spelled_one output edge cut c = elim (cases_lt c output.cells) [
+    | inl lt ↦ subst (Spells width (get_or edge c [])) (sym (below_is output.cells cut.cells c lt)) (cut.spelled c lt)
+    | inr le ↦
+        let none : get_or edge c [] ≡ [] = get_or_past edge c [] (omega (arith, le, cut.count)) in
+        let empty : below output.cells cut.cells c ≡ [] = ap (λ (b : Bool). if b then cut.cells c else []) (lt_false c output.cells le) in
+        subst (λ (bytes : List ℕ). Spells width bytes (below output.cells cut.cells c)) (sym none) (subst (Spells width []) (sym empty) (tt, refl))
+  ]
+
   spelled : (outputs : List VertexOutput) (edges : List (List (List ℕ))) → AreCut outputs edges → SpellRows width edges
   spelled [] [] cut e c = ([], (tt, refl))
   spelled [] (edge ∷ edges) cut e c = absurd cut
   spelled (output ∷ outputs) [] cut e c = absurd cut
-  spelled (output ∷ outputs) (edge ∷ edges) cut zero c = (cut.0.cells c, cut.0.spelled c)
+  spelled (output ∷ outputs) (edge ∷ edges) cut zero c = (below output.cells cut.0.cells c, spelled_one output edge cut.0 c)
   spelled (output ∷ outputs) (edge ∷ edges) cut (suc e) c = spelled outputs edges cut.1 e c
 
   each_cut : (outputs : List VertexOutput) (edges : List (List (List ℕ))) (cut : AreCut outputs edges) (e : ℕ) → e < length outputs
@@ -260,14 +302,15 @@ module _ (width attempt : ℕ) (rows : List Row) where
   unfolding spelled
   each_cut [] edges cut e lt = absurd (omega (arith, lt))
   each_cut (output ∷ outputs) [] cut e lt = absurd cut
-  each_cut (output ∷ outputs) (edge ∷ edges) cut zero lt = cut.0.cut
+  each_cut (output ∷ outputs) (edge ∷ edges) cut zero lt = cut_below attempt output rows cut.0.cells cut.0.cut
   each_cut (output ∷ outputs) (edge ∷ edges) cut (suc e) lt = each_cut outputs edges cut.1 e (omega (arith, lt))
 
 pub gives : (task : Task) (width attempt : ℕ) (rows : List Row) (edges : List (List (List ℕ))) → width ≡ task_width task → attempt ≡ task.name.attempt → SameBag rows (task_rows task)
-    → AllZip (IsCutInto width attempt rows) task.vertex.outputs edges → Gives task edges
+    → AllZip (λ output bytes. IsCutInto width attempt output rows bytes) task.vertex.outputs edges → Gives task edges
 gives task width attempt rows edges width_is attempt_is same cut =
     let outputs = task.vertex.outputs in
-    let it = subst (λ (w : ℕ). AllZip (IsCutInto w task.name.attempt rows) outputs edges) width_is (subst (λ (a : ℕ). AllZip (IsCutInto width a rows) outputs edges) attempt_is cut) in
+    let it = subst (λ (w : ℕ). AllZip (λ output bytes. IsCutInto w task.name.attempt output rows bytes) outputs edges) width_is
+    (subst (λ (a : ℕ). AllZip (λ output bytes. IsCutInto width a output rows bytes) outputs edges) attempt_is cut) in
     let spell = spelled (task_width task) task.name.attempt rows outputs edges it in (
       counted (task_width task) task.name.attempt rows outputs edges it,
       (spell, by_bags task.name.attempt outputs rows (task_rows task) (λ e c. (spell e c).0) same (record { each = each_cut (task_width task) task.name.attempt rows outputs edges it })),

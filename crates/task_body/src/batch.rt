@@ -1,11 +1,11 @@
-use row_core::Rows;
+use row_view::EncodedRows;
 use std::marker::Model;
 
-/// Rows of one width, which operators pass on. Contracts see them as a bag.
+/// Rows of one width as their bytes, which operators pass on. Contracts see them as a bag.
 #[derive(Debug, Drop)]
 pub struct Batch {
     pub width: u32,
-    pub rows: Rows,
+    pub rows: EncodedRows,
 }
 
 impl Model for Batch {

@@ -5,7 +5,6 @@
 mod batch;
 mod chaining;
 mod constants;
-mod cutting;
 mod heading;
 mod operating;
 mod outputs;

@@ -1,21 +1,26 @@
-ghost use Rattle.std.specs.Prelude.{◌≡◌, ◌∷◌, [], false, map, Some, IfOk, IsTrue};
+ghost use Rattle.std.specs.Prelude.{◌≡◌, ◌≤◌, ◌∷◌, [], All, List, false, map, Some, IfOk, IsTrue, OnOk};
+ghost use Rattle.std.specs.List.{flat_map};
+ghost use Rattle.bag_laws.specs.Rows.{OneRow};
 ghost use Rattle.operator_laws.specs.Texts.{ConstantsFit};
 ghost use Rattle.plan_model.specs.Nodes.{Alike, IsGood};
 ghost use Rattle.plan_model.specs.Operators.{is_source};
 ghost use Rattle.plan_model.specs.Plans.{bag_of};
 ghost use Rattle.plan_model.specs.declared.op.Op.TheVariants.{Join as JoinOp, Union as UnionOp};
-ghost use Rattle.task_body.specs.Inputs.{input_bag};
+ghost use Rattle.row_collector.specs.Collecting.{Collects};
+ghost use Rattle.row_core.specs.Bags.{SameBag};
+ghost use Rattle.row_core.specs.Values.{width_limit};
+ghost use Rattle.task_body.specs.Inputs.{input_bag, input_rows};
 ghost use Rattle.task_body.specs.Plans.{IsEncodable};
 ghost use Rattle.vertex_builder.specs.Edges.{is_join};
 ghost use Rattle.vertex_laws.specs.VertexRows.{no_files, taken_bags};
 
 use crate::TaskInput;
 use crate::batch::Batch;
-use crate::reading::{append_input, read_input};
-use op_join::join_owned;
-use op_unary::apply_owned;
+use crate::reading::{push_input, read_input};
 use plan_model::{JoinKind, KeyPairs, Op, Side, Widths};
-use row_core::{NoMemory, Rows};
+use row_collector::Collector;
+use row_core::NoMemory;
+use row_operators::RowBuffer;
 use std::alloc::Global;
 
 /// What an operator but a source gives on its inputs, as an attempt reads them.
@@ -55,8 +60,8 @@ pub fn apply(alloc: Global, op: &Op, batch: Batch) -> Result<Batch, NoMemory>
         return Ok(batch);
     }
     let Batch { width, rows } = batch;
+    let rows = row_operators::apply(alloc, op, width, rows)?;
     let width = op.width(&[width]) as u32;
-    let rows = apply_owned(alloc, op, rows)?;
     Ok(Batch { width, rows })
 }
 
@@ -104,7 +109,7 @@ fn join(
         right: right.width,
     };
     let width = kind.width(u64::from(left.width), u64::from(right.width)) as u32;
-    let rows = join_owned(alloc, kind, keys, widths, left.rows, right.rows)?;
+    let rows = row_operators::join(alloc, kind, keys, widths, &left.rows, &right.rows)?;
     Ok(Batch { width, rows })
 }
 
@@ -116,11 +121,31 @@ fn unite(alloc: Global, op: &Op, attempt: u32, inputs: &[TaskInput]) -> Result<B
         (λ batch. Alike batch (bag_of no_files op.now (map (input_bag op.now) inputs.now))) }
     ensures fit { IfOk result (λ batch. IsEncodable batch) }
 {
-    let mut rows = Vec::new(alloc);
-    for input in inputs {
-        append_input(alloc, op, attempt, input, &mut rows)?;
-    }
-    let rows = Rows::from_vec(rows);
     let width = inputs[0].width;
+    let mut buffer = RowBuffer::new(alloc, width);
+    push_inputs(alloc, op, attempt, inputs, &mut buffer)?;
+    let rows = buffer.into_rows();
     Ok(Batch { width, rows })
+}
+
+fn push_inputs<C: Collector>(
+    alloc: Global,
+    op: &Op,
+    attempt: u32,
+    inputs: &[TaskInput],
+    out: &mut C,
+) -> Result<(), NoMemory>
+    requires reads { is_source op.now ≡ false }
+    requires widths { All (λ input. input.width ≡ C.width out.old) inputs.now }
+    requires narrow { C.width out.old ≤ width_limit }
+    ensures width { OnOk result (C.width out.new ≡ C.width out.old) }
+    ensures kept { OnOk result (C.kept out.new ≡ C.kept out.old) }
+    ensures takes { OnOk result ((read : List OneRow)
+        × (SameBag read (flat_map (input_rows op.now) inputs.now)
+        × Collects C.holds out.old out.new read)) }
+{
+    for input in inputs {
+        push_input(alloc, op, attempt, input, out)?;
+    }
+    Ok(())
 }

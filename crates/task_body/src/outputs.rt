@@ -1,11 +1,14 @@
 ghost use Rattle.std.specs.Prelude.{All, IfOk};
-ghost use Rattle.std.specs.List.{AllZip};
+ghost use Rattle.std.specs.List.{AllByRecursion, AllZip};
+ghost use Rattle.row_cells.specs.Cutting.{IsCutInto};
 ghost use Rattle.row_view.specs.Encoded.{RowOf};
-ghost use Rattle.task_body.specs.Outputs.{IsCutInto, TakesRows};
+ghost use Rattle.task_body.specs.Outputs.{TakesRows};
 
-use crate::cutting::cut;
 use estate::{Edge, Edges};
-use row_core::{NoMemory, Row};
+use row_cells::OutputCells;
+use row_core::NoMemory;
+use row_steps::push_rows;
+use row_view::EncodedRows;
 use std::alloc::Global;
 use vertex_builder::VertexOutput;
 
@@ -15,17 +18,35 @@ pub fn cut_each(
     outputs: &[VertexOutput],
     attempt: u32,
     width: u32,
-    rows: &[Row],
+    rows: &EncodedRows,
 ) -> Result<Edges, NoMemory>
     requires take { All (TakesRows width) outputs.now }
-    requires rows { All (RowOf width) rows.now }
-    ensures { IfOk result
-        (λ edges. AllZip (IsCutInto width attempt rows.now) outputs.now edges) }
+    requires rows { AllByRecursion (RowOf width) rows.now }
+    ensures { IfOk result (λ edges. AllZip
+        (λ output cells. IsCutInto width attempt output rows.now cells) outputs.now edges) }
 {
     let mut edges = Edges::new(alloc);
     for output in outputs {
-        let cells = cut(alloc, output, attempt, width, rows)?;
-        edges.push(Edge::from_vec(cells))?;
+        let edge = cut(alloc, output, attempt, width, rows)?;
+        edges.push(edge)?;
     }
     Ok(edges)
+}
+
+// The cells of an output, each with the bytes of its rows.
+fn cut(
+    alloc: Global,
+    output: &VertexOutput,
+    attempt: u32,
+    width: u32,
+    rows: &EncodedRows,
+) -> Result<Edge, NoMemory>
+    requires takes { TakesRows width output.now }
+    requires rows { AllByRecursion (RowOf width) rows.now }
+    ensures { IfOk result (λ edge. IsCutInto width attempt output.now rows.now edge) }
+{
+    let mut cells = OutputCells::new(alloc, output, width, attempt)?;
+    push_rows(alloc, &[], rows, &mut cells)?;
+    let cells = cells.into_vec();
+    Ok(Edge::from_vec(cells))
 }

@@ -1,22 +1,25 @@
-ghost use Rattle.std.specs.Prelude.{◌≡◌, ◌≤◌, ◌++◌, List, IfOk, OnOk, map};
+ghost use Rattle.std.specs.Prelude.{◌≡◌, ◌≤◌, List, All, IfOk, OnOk, map};
 ghost use Rattle.std.specs.List.{flat_map};
 ghost use Rattle.bag_laws.specs.Rows.{OneRow};
 ghost use Rattle.plan_model.specs.Nodes.{Alike};
+ghost use Rattle.row_collector.specs.Collecting.{Collects};
 ghost use Rattle.row_core.specs.Bags.{SameBag};
 ghost use Rattle.row_core.specs.Values.{width_limit};
-ghost use Rattle.task_body.specs.Cells.{cell_rows, file_rows};
+ghost use Rattle.task_body.specs.Cells.{HasWidth, cell_rows, file_rows};
 ghost use Rattle.task_body.specs.Inputs.{ReadsFiles, input_bag, input_rows};
 ghost use Rattle.task_body.specs.Plans.{IsEncodable};
 
 use crate::batch::Batch;
 use crate::{TaskCell, TaskInput};
-use csv_tables::read_table;
-use plan_model::{Column, Kind, Kinds, Op};
-use row_core::{Bytes, NoMemory, Row, Rows};
+use csv_tables::scan_table;
+use plan_model::{Column, Kind, Op};
+use row_collector::Collector;
+use row_core::{Bytes, NoMemory};
+use row_operators::RowBuffer;
+use row_steps::push_rows;
 use std::alloc::Global;
 
-/// The rows of an input, as an operator reads them. An attempt begins with another cell than the
-/// one before it.
+/// The rows of an input, as an operator reads them.
 pub fn read_input(
     alloc: Global,
     op: &Op,
@@ -28,28 +31,34 @@ pub fn read_input(
     ensures read { IfOk result (λ batch. Alike batch (input_bag op.now input.now)) }
     ensures fit { IfOk result (λ batch. IsEncodable batch) }
 {
-    let mut rows = Vec::new(alloc);
-    append_input(alloc, op, attempt, input, &mut rows)?;
-    let rows = Rows::from_vec(rows);
     let width = input.width;
+    let mut buffer = RowBuffer::new(alloc, width);
+    push_input(alloc, op, attempt, input, &mut buffer)?;
+    let rows = buffer.into_rows();
     Ok(Batch { width, rows })
 }
 
-/// Adds the rows of an input at the end.
-pub fn append_input(
+/// Gives the collector the rows of an input, as an operator reads them. An attempt begins with
+/// another cell than the one before it.
+pub fn push_input<C: Collector>(
     alloc: Global,
     op: &Op,
     attempt: u32,
     input: &TaskInput,
-    rows: &mut Vec<Row>,
+    out: &mut C,
 ) -> Result<(), NoMemory>
-    ensures { OnOk result ((more : List OneRow) × (rows.new.items ≡ rows.old.items ++ more)
-        × SameBag more (input_rows op.now input.now)) }
+    requires files { ReadsFiles op.now input.now.width }
+    requires narrow { input.now.width ≤ width_limit }
+    requires width { C.width out.old ≡ input.now.width }
+    ensures width { OnOk result (C.width out.new ≡ C.width out.old) }
+    ensures kept { OnOk result (C.kept out.new ≡ C.kept out.old) }
+    ensures takes { OnOk result ((read : List OneRow) × (SameBag read (input_rows op.now input.now)
+        × Collects C.holds out.old out.new read)) }
 {
     let cells = input.cells.as_slice();
     let (before, after) = cells.split_at(first_cell(attempt, cells.len()));
-    append_cells(alloc, op, after, rows)?;
-    append_cells(alloc, op, before, rows)
+    push_cells(alloc, op, input.width, after, out)?;
+    push_cells(alloc, op, input.width, before, out)
 }
 
 // The cell that an attempt reads first, of so many.
@@ -62,39 +71,69 @@ fn first_cell(attempt: u32, count: usize) -> usize
     attempt as usize % count
 }
 
-fn append_cells(
+fn push_cells<C: Collector>(
     alloc: Global,
     op: &Op,
+    width: u32,
     cells: &[TaskCell],
-    rows: &mut Vec<Row>,
+    out: &mut C,
 ) -> Result<(), NoMemory>
-    ensures { OnOk result (rows.new.items ≡ rows.old.items ++ flat_map (cell_rows op.now) cells.now) }
+    requires files { ReadsFiles op.now width }
+    requires narrow { width ≤ width_limit }
+    requires width { C.width out.old ≡ width }
+    requires cells { All (HasWidth width) cells.now }
+    ensures width { OnOk result (C.width out.new ≡ C.width out.old) }
+    ensures kept { OnOk result (C.kept out.new ≡ C.kept out.old) }
+    ensures takes { OnOk result (Collects C.holds out.old out.new
+        (flat_map (cell_rows op.now) cells.now)) }
 {
     for cell in cells {
-        let more = read_cell(alloc, op, cell)?;
-        rows.append(&mut more.into_vec())?;
+        push_cell(alloc, op, width, cell, out)?;
     }
     Ok(())
 }
 
-fn read_cell(alloc: Global, op: &Op, cell: &TaskCell) -> Result<Rows, NoMemory>
-    ensures { IfOk result (λ rows. rows ≡ cell_rows op.now cell.now) }
+fn push_cell<C: Collector>(
+    alloc: Global,
+    op: &Op,
+    width: u32,
+    cell: &TaskCell,
+    out: &mut C,
+) -> Result<(), NoMemory>
+    requires files { ReadsFiles op.now width }
+    requires narrow { width ≤ width_limit }
+    requires width { C.width out.old ≡ width }
+    requires cell { HasWidth width cell.now }
+    ensures width { OnOk result (C.width out.new ≡ C.width out.old) }
+    ensures kept { OnOk result (C.kept out.new ≡ C.kept out.old) }
+    ensures takes { OnOk result (Collects C.holds out.old out.new (cell_rows op.now cell.now)) }
 {
     match cell {
-        TaskCell::File(bytes) => read_file(alloc, op, bytes),
-        TaskCell::Cell(rows) => rows.decoded(alloc),
+        TaskCell::File(bytes) => push_file(alloc, op, width, bytes, out),
+        TaskCell::Cell(rows) => push_rows(alloc, &[], rows, out),
     }
 }
 
-fn read_file(alloc: Global, op: &Op, bytes: &Bytes) -> Result<Rows, NoMemory>
-    ensures { IfOk result (λ rows. rows ≡ file_rows op.now bytes.now) }
+fn push_file<C: Collector>(
+    alloc: Global,
+    op: &Op,
+    width: u32,
+    bytes: &Bytes,
+    out: &mut C,
+) -> Result<(), NoMemory>
+    requires files { ReadsFiles op.now width }
+    requires narrow { width ≤ width_limit }
+    requires width { C.width out.old ≡ width }
+    ensures width { OnOk result (C.width out.new ≡ C.width out.old) }
+    ensures kept { OnOk result (C.kept out.new ≡ C.kept out.old) }
+    ensures takes { OnOk result (Collects C.holds out.old out.new (file_rows op.now bytes.now)) }
 {
     match op {
         Op::Source { columns, .. } => {
-            let kinds = Kinds::from_vec(kinds_of(alloc, columns.as_slice())?);
-            read_table(alloc, bytes, &kinds)
+            let kinds = kinds_of(alloc, columns.as_slice())?;
+            scan_table(alloc, bytes.as_slice(), kinds.as_slice(), &[], out)
         }
-        _ => Ok(Rows::new(alloc)),
+        _ => Ok(()),
     }
 }
 

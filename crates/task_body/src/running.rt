@@ -26,5 +26,5 @@ fn edges_of(alloc: Global, task: &Task) -> Result<Edges, NoMemory>
     let batch = chain_batch(alloc, task, head)?;
     let outputs = task.vertex().outputs.as_slice();
     let attempt = task.name().attempt;
-    cut_each(alloc, outputs, attempt, batch.width, batch.rows.as_slice())
+    cut_each(alloc, outputs, attempt, batch.width, &batch.rows)
 }

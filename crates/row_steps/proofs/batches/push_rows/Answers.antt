@@ -52,7 +52,7 @@ loop-row-preserved g c =
     (ap (λ (items : List ValueRef). chained ops (row_seen items ∷ [])) c.as_slice.ensures.value) c.in_ok-push_row.ensures.takes in (
       done ++ row ∷ [],
       one_more_taken c.args.rows.now done c.loop-row.reader c.read_into.new.self row had takes,
-      c.in_ok-push_row.ensures.width ∙ width,
-      c.in_ok-push_row.ensures.kept ∙ kept,
+      c.push_row.ensures.width ∙ width,
+      c.push_row.ensures.kept ∙ kept,
       more_pushed holds c.args.out.now c.loop-row.out c.push_row.new.out ops c.requires.width (g.C.Collector.width c.args.out.now) done (row ∷ []) c.requires.steps taken later,
     )

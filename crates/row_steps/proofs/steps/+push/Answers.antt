@@ -1,4 +1,4 @@
-use Rattle.std.proofs.Common.{rules, arith, ◌≡◌, ◌∷◌, ◌++◌, [], List, ℕ, Bor, Option, Some, None, length, map, set, get_or, refl, sym, ap, subst, ◌∙◌}
+use Rattle.std.proofs.Common.{rules, ◌≡◌, ◌∷◌, ◌++◌, [], List, ℕ, Bor, Option, Some, None, length, map, set, get_or, refl, sym, ap, subst, ◌∙◌}
 use Rattle.std.specs.Option.{option_map}
 use Rattle.std.proofs.lemmas.List.{length-map, length-set, map-append}
 use Rattle.row_core.specs.declared.value.Value.{Value}
@@ -88,8 +88,8 @@ push_pieces-loop-rest-preserved g t c =
       next_piece c.args.separator (pieces c.args.separator c.args.text.now) done c.in-Some.text.now piece.now c.first_piece.result.1 every c.first_piece.ensures.pieces,
       length-set items c.args.column (Text piece) ∙ wide,
       set_again (row_seen put) (row_seen items) row c.args.column (whole.Text piece.now) (piece_seen put items c.args.column piece refl) same,
-      c.in_ok-push_row.ensures.width ∙ width,
-      c.in_ok-push_row.ensures.kept ∙ kept,
+      c.push_row.ensures.width ∙ width,
+      c.push_row.ensures.kept ∙ kept,
       collects_as holds c.args.out.now c.push_row.new.out
           (chained ops (map (with_piece row c.args.column) done ++ with_piece row c.args.column piece.now ∷ []))
           (chained ops (map (with_piece row c.args.column) (done ++ piece.now ∷ [])))

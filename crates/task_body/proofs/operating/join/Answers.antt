@@ -1,10 +1,19 @@
-use Rattle.std.proofs.Common.{◌≡◌, [], ◌∷◌, ◌∙◌, ap, subst}
+use Rattle.std.proofs.Common.{◌≡◌, [], ◌∷◌, ◌∙◌, ap, subst, sym}
+use Rattle.std.specs.List.{AllByRecursion}
+use Rattle.row_view.specs.Encoded.{RowOf}
+use Rattle.task_body.proofs.Inputs.{rows_of_width}
 use Rattle.row_core.specs.Bags.{SameBag}
 use Rattle.plan_model.specs.Joins.{joined}
 use Rattle.plan_model.specs.Plans.{Bag, join_width}
 use Rattle.plan_model.specs.declared.op.Op.TheVariants.{Join}
 use Rattle.task_body.proofs.Alike.{given_fits, two_fit}
 use Rattle.task_body.proofs.operating.join.Goals as goal
+
+pub join-requires-clause-left : goal.join-requires-clause-left
+join-requires-clause-left c = subst (λ (bag : Bag). AllByRecursion (RowOf bag.width) bag.rows) (sym c.left.view_is) (rows_of_width c.args.left c.requires.left)
+
+pub join-requires-clause-right : goal.join-requires-clause-right
+join-requires-clause-right c = subst (λ (bag : Bag). AllByRecursion (RowOf bag.width) bag.rows) (sym c.right.view_is) (rows_of_width c.args.right c.requires.right)
 
 pub returns-clause-fit : goal.returns-clause-fit
 returns-clause-fit c =

@@ -1,11 +1,10 @@
-use Rattle.std.proofs.Common.{◌≡◌, ◌≤◌, true, List, ℕ, [], length, map, Some, Option, sym, ap, ◌∙◌, arith}
+use Rattle.std.proofs.Common.{◌≡◌, true, List, ℕ, [], map, Some, Option, sym, ap, ◌∙◌, arith}
 use Rattle.std.specs.Prelude.{is_some, position}
 use Rattle.std.specs.List.{list_any}
 use Rattle.std.specs.Str.{bytes_eq}
 use Rattle.std.proofs.lemmas.List.Quantifiers.{position-Some}
 use Rattle.row_core.specs.Encoding.{values_bytes}
 use Rattle.row_core.specs.Hashing.{key_of}
-use Rattle.row_core.specs.Values.{width_limit}
 use Rattle.row_view.specs.Encoded.{RowOf}
 use Rattle.row_view.specs.Views.{row_seen}
 use Rattle.row_view.proofs.Laws.{all_more}
@@ -28,8 +27,7 @@ returns-clause-takes c = λ rows had.
     ap (λ (bytes : List ℕ). position (bytes_eq bytes) groups.places) (sym c.requires.key) ∙ sym c.place_of.ensures.place ∙ c.in-Some.is in
     let found : list_any (bytes_eq key) groups.places ≡ true =
     ap (λ (bytes : List ℕ). list_any (bytes_eq bytes) groups.places) (sym c.requires.key) ∙ sym c.place_of.ensures.found ∙ ap (λ (place : Option ℕ). is_some place) c.in-Some.is in
-    let narrow : length groups.keys.now ≤ width_limit = omega (arith, groups.narrow) in
-    let both = held_there (λ some. map (accumulator_of some) groups.aggs.now) groups.keys.now groups.width rows row groups.places (states_of groups.states.items) narrow had.wide c.requires.row had.keys had.told
+    let both = held_there (λ some. map (accumulator_of some) groups.aggs.now) groups.keys.now groups.width rows row groups.places (states_of groups.states.items) had.wide c.requires.row had.keys had.told
     c.in-Some.place [] (states_of c.add_at.new.groups.items) at found c.in_ok-add_at.ensures.takes in
     record {
       wide = all_more (RowOf groups.width) rows row had.wide c.requires.row;

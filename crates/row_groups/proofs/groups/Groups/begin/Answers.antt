@@ -1,4 +1,4 @@
-use Rattle.std.proofs.Common.{◌≡◌, ◌≤◌, ◌++◌, ◌∷◌, false, List, ℕ, [], length, map, sym, ap, ◌∙◌, arith}
+use Rattle.std.proofs.Common.{◌≡◌, ◌++◌, ◌∷◌, false, List, ℕ, [], map, sym, ap, ◌∙◌}
 use Rattle.std.specs.Global.{Vec}
 use Rattle.std.specs.List.{list_any}
 use Rattle.std.specs.Str.{bytes_eq}
@@ -6,7 +6,6 @@ use Rattle.std.proofs.lemmas.List.{map-append}
 use Rattle.indexmap.specs.IndexSet.{insert_key}
 use Rattle.row_core.specs.Encoding.{values_bytes}
 use Rattle.row_core.specs.Hashing.{key_of}
-use Rattle.row_core.specs.Values.{width_limit}
 use Rattle.row_view.specs.Encoded.{RowOf}
 use Rattle.row_view.specs.Views.{row_seen}
 use Rattle.row_view.proofs.Laws.{all_more}
@@ -24,8 +23,7 @@ returns-clause-takes c = λ rows had.
     let more = c.in_ok-insert.ensures.ok ∙ ap (insert_key bytes_eq groups.places) c.requires.key in
     let fresh = ap states_of c.in_ok-push.ensures.items ∙ map-append (λ (states : Vec Accumulator). states.items) groups.states.items (c.in_ok-states.states ∷ [])
     ∙ ap (λ (one : List Accumulator). states_of groups.states.items ++ one ∷ []) c.in_ok-states.ensures in
-    let narrow : length groups.keys.now ≤ width_limit = omega (arith, groups.narrow) in
-    let both = held_new (λ some. map (accumulator_of some) groups.aggs.now) groups.keys.now groups.width rows row groups.places (states_of groups.states.items) narrow had.wide c.requires.row had.keys had.told
+    let both = held_new (λ some. map (accumulator_of some) groups.aggs.now) groups.keys.now groups.width rows row groups.places (states_of groups.states.items) had.wide c.requires.row had.keys had.told
     _ _ none more fresh in
     record {
       wide = all_more (RowOf groups.width) rows row had.wide c.requires.row;

@@ -1,0 +1,6 @@
+mod Building
+mod Finding
+mod Joins
+pub mod Laws
+mod Matching
+mod Pairs

@@ -1,5 +1,0 @@
-use Rattle.std.proofs.Common.{◌≡◌, [], replicate}
-use Rattle.task_body.proofs.cutting.empty_cells.Given as goal
-
-abbrev pub invariant-loop : goal.invariant-loop
-invariant-loop l = l.cells.items ≡ replicate l.counter []
