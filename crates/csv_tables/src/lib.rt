@@ -13,5 +13,5 @@ mod table;
 
 pub use lines::SinkLines;
 pub use scan::scan_table;
-pub use sink::{sink_text, sink_text_owned};
+pub use sink::sink_text;
 pub use table::read_table;

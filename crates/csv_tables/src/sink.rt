@@ -13,13 +13,3 @@ pub fn sink_text(alloc: Global, rows: &Rows) -> Result<Bytes, NoMemory>
     let lines = SinkLines::new(alloc).with_rows(rows)?;
     lines.into_sorted_text(alloc)
 }
-
-/// What `sink_text` gives, of rows that are the call's own: they are let go before the lines are
-/// sorted.
-pub fn sink_text_owned(alloc: Global, rows: Rows) -> Result<Bytes, NoMemory>
-    ensures { IfOk result (λ text. text ≡ sorted_lines rows) }
-{
-    let lines = SinkLines::new(alloc).with_rows(&rows)?;
-    drop(rows);
-    lines.into_sorted_text(alloc)
-}

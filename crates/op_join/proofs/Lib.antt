@@ -1,5 +1,4 @@
 mod Alike
 mod Arms
-mod Emitted
 mod Kept
 mod Ranges

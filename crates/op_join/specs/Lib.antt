@@ -1,4 +1,3 @@
-pub mod Builds
 pub mod Cells
 pub mod Keys
 pub mod Probes

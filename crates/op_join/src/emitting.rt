@@ -1,12 +1,8 @@
-ghost use Rattle.std.specs.Prelude.{◌≡◌, ◌∷◌, [], ◌++◌, List, map, OnOk};
-ghost use Rattle.bag_laws.specs.Rows.{OneRow};
-ghost use Rattle.row_core.specs.declared.value.Value.{Value as OneValue};
+ghost use Rattle.std.specs.Prelude.{◌≡◌, ◌++◌, map, OnOk};
 ghost use Rattle.op_join.specs.Keys.{rows_of};
-ghost use Rattle.op_join.specs.Probes.{probe_values};
 ghost use Rattle.op_join.specs.Sides.{output};
 
 use crate::keyed::Keyed;
-use crate::probe_row::ProbeRow;
 use crate::row_parts::concat;
 use crate::rule::Rule;
 use row_core::{NoMemory, Row, Rows};
@@ -18,89 +14,47 @@ pub fn emit(
     out: &mut Rows,
     rule: Rule,
     padding: &Row,
-    row: ProbeRow,
+    row: &Row,
     matches: &[Keyed],
 ) -> Result<(), NoMemory>
     ensures { OnOk result
-        (out.new ≡ out.old
-        ++ output rule padding.now (probe_values row.entry) (rows_of matches.now)) }
+        (out.new ≡ out.old ++ output rule padding.now row.now (rows_of matches.now)) }
 {
-    match matches.split_last() {
-        None => emit_unmatched(alloc, out, rule, padding, row),
-        Some((last, first)) => emit_matched(alloc, out, rule, row, first, last),
+    match (rule, matches.is_empty()) {
+        (Rule::Pairs, _) | (Rule::PairsOrPadded, false) => push_pairs(alloc, out, row, matches),
+        (Rule::MirroredOrPadded, false) => push_mirrored(alloc, out, row, matches),
+        (Rule::PairsOrPadded, true) => out.push(concat(alloc, row, padding)?),
+        (Rule::MirroredOrPadded | Rule::PaddedIfUnmatched, true) => {
+            out.push(concat(alloc, padding, row)?)
+        }
+        (Rule::RowIfMatched, false) | (Rule::RowIfUnmatched, true) => out.push(row.copy(alloc)?),
+        (Rule::RowIfMatched, true) | (Rule::RowIfUnmatched | Rule::PaddedIfUnmatched, false) => {
+            Ok(())
+        }
     }
 }
 
-// The rows for a probe row without a match.
-fn emit_unmatched(
-    alloc: Global,
-    out: &mut Rows,
-    rule: Rule,
-    padding: &Row,
-    row: ProbeRow,
-) -> Result<(), NoMemory>
+fn push_pairs(alloc: Global, out: &mut Rows, row: &Row, matches: &[Keyed]) -> Result<(), NoMemory>
     ensures { OnOk result
-        (out.new ≡ out.old ++ output rule padding.now (probe_values row.entry) []) }
+        (out.new ≡ out.old ++ map (λ other. row.now ++ other) (rows_of matches.now)) }
 {
-    match rule {
-        Rule::Pairs | Rule::RowIfMatched => Ok(()),
-        Rule::PairsOrPadded => out.push(row.before(alloc, padding)?),
-        Rule::MirroredOrPadded | Rule::PaddedIfUnmatched => out.push(row.behind(alloc, padding)?),
-        Rule::RowIfUnmatched => out.push(row.into_row(alloc)?),
+    for other in matches {
+        out.push(concat(alloc, row, other.row)?)?;
     }
-}
-
-// The rows for a probe row with these matches.
-fn emit_matched(
-    alloc: Global,
-    out: &mut Rows,
-    rule: Rule,
-    row: ProbeRow,
-    first: &[Keyed],
-    last: &Keyed,
-) -> Result<(), NoMemory>
-    ensures { (padding : List OneValue) → OnOk result (out.new ≡ out.old
-        ++ output rule padding (probe_values row.entry)
-        (rows_of first.now ++ last.now.row.now ∷ [])) }
-{
-    match rule {
-        Rule::Pairs | Rule::PairsOrPadded => push_pairs(alloc, out, row, first, last),
-        Rule::MirroredOrPadded => push_mirrored(alloc, out, row, first, last),
-        Rule::RowIfMatched => out.push(row.into_row(alloc)?),
-        Rule::PaddedIfUnmatched | Rule::RowIfUnmatched => Ok(()),
-    }
-}
-
-fn push_pairs(
-    alloc: Global,
-    out: &mut Rows,
-    row: ProbeRow,
-    first: &[Keyed],
-    last: &Keyed,
-) -> Result<(), NoMemory>
-    ensures { OnOk result (out.new ≡ out.old
-        ++ map (λ other. probe_values row.entry ++ other)
-        (rows_of first.now ++ last.now.row.now ∷ [])) }
-{
-    for other in first {
-        out.push(concat(alloc, row.as_row(), other.row)?)?;
-    }
-    out.push(row.before(alloc, last.row)?)
+    Ok(())
 }
 
 fn push_mirrored(
     alloc: Global,
     out: &mut Rows,
-    row: ProbeRow,
-    first: &[Keyed],
-    last: &Keyed,
+    row: &Row,
+    matches: &[Keyed],
 ) -> Result<(), NoMemory>
-    ensures { OnOk result (out.new ≡ out.old
-        ++ map (λ other. other ++ probe_values row.entry)
-        (rows_of first.now ++ last.now.row.now ∷ [])) }
+    ensures { OnOk result
+        (out.new ≡ out.old ++ map (λ other. other ++ row.now) (rows_of matches.now)) }
 {
-    for other in first {
-        out.push(concat(alloc, other.row, row.as_row())?)?;
+    for other in matches {
+        out.push(concat(alloc, other.row, row)?)?;
     }
-    out.push(row.behind(alloc, last.row)?)
+    Ok(())
 }

@@ -43,41 +43,6 @@ pub fn join(
     }
 }
 
-/// The rows of a join, as `join` gives them, from sides that are needed no more. The rows of the side
-/// that the others are padded for are moved into the result; those of the other side are copied.
-pub fn join_owned(
-    alloc: Global,
-    kind: JoinKind,
-    keys: &KeyPairs,
-    widths: Widths,
-    left: Rows,
-    right: Rows,
-) -> Result<Rows, NoMemory>
-    ensures { IfOk result (λ given. SameBag given
-        (joined keys.now widths.left widths.right left right kind)) }
-{
-    let keys = keys.as_slice();
-    match kind {
-        JoinKind::Inner | JoinKind::Left | JoinKind::Semi | JoinKind::Anti => {
-            let others = right.as_slice();
-            let probe = Probe::by_left(alloc, left_rule(kind), widths.right, keys, others)?;
-            probe.rows_owned(alloc, left)
-        }
-        JoinKind::Right => {
-            let rule = Rule::MirroredOrPadded;
-            let probe = Probe::by_right(alloc, rule, widths.left, keys, left.as_slice())?;
-            probe.rows_owned(alloc, right)
-        }
-        JoinKind::Full => {
-            let others = right.as_slice();
-            let unmatched = unmatched_right(alloc, widths, keys, left.as_slice(), others)?;
-            let rule = Rule::PairsOrPadded;
-            let probe = Probe::by_left(alloc, rule, widths.right, keys, others)?;
-            append(probe.rows_owned(alloc, left)?, unmatched)
-        }
-    }
-}
-
 // The right rows without a match, each behind Nulls.
 fn unmatched_right(
     alloc: Global,

@@ -2,18 +2,15 @@
 //! gives. Rows come in no promised order. `probe.rt` is the join itself.
 #![tactic(auto)]
 
-mod build_side;
 mod cells;
 mod emitting;
 mod joining;
 mod key_prefix;
 mod keyed;
 mod probe;
-mod probe_row;
 mod row_parts;
 mod rule;
 mod searching;
 mod sorted_side;
 
-pub use build_side::BuildSide;
-pub use joining::{join, join_owned};
+pub use joining::join;

@@ -5,7 +5,6 @@ ghost use Rattle.plan_model.specs.Joins.{matches, nulls};
 
 use crate::emitting::emit;
 use crate::keyed::{left_columns, right_columns};
-use crate::probe_row::ProbeRow;
 use crate::row_parts::null_row;
 use crate::rule::Rule;
 use crate::sorted_side::SortedSide;
@@ -76,37 +75,7 @@ impl<'a> Probe<'a> {
             let matches = self
                 .side
                 .matches_of(self.columns.as_slice(), row, &mut last);
-            emit(
-                alloc,
-                &mut out,
-                self.rule,
-                &self.padding,
-                ProbeRow::Borrowed(row),
-                matches,
-            )?;
-        }
-        Ok(out)
-    }
-
-    /// What `rows` gives, of rows that are the call's own: each is moved into the last row that it
-    /// gives, and let go where it gives none.
-    pub fn rows_owned(&self, alloc: Global, rows: Rows) -> Result<Rows, NoMemory>
-        ensures { IfOk result (λ made. made ≡ probe_outputs self.now rows) }
-    {
-        let mut out = Rows::new(alloc);
-        let mut last = 0;
-        for row in rows.into_vec() {
-            let matches = self
-                .side
-                .matches_of(self.columns.as_slice(), &row, &mut last);
-            emit(
-                alloc,
-                &mut out,
-                self.rule,
-                &self.padding,
-                ProbeRow::Owned(row),
-                matches,
-            )?;
+            emit(alloc, &mut out, self.rule, &self.padding, row, matches)?;
         }
         Ok(out)
     }

@@ -14,22 +14,13 @@ pub fn concat(alloc: Global, first: &Row, second: &Row) -> Result<Row, NoMemory>
     Ok(row)
 }
 
-pub fn push_values(alloc: Global, row: &mut Row, values: &[Value]) -> Result<(), NoMemory>
+fn push_values(alloc: Global, row: &mut Row, values: &[Value]) -> Result<(), NoMemory>
     ensures { OnOk result (row.new ≡ row.old ++ values.now) }
 {
     for value in values {
         row.push(value.copy(alloc)?)?;
     }
     Ok(())
-}
-
-/// The row with room for so many more values.
-pub fn with_room(row: Row, more: usize) -> Result<Row, NoMemory>
-    ensures { IfOk result (λ roomy. roomy ≡ row) }
-{
-    let mut values = row.into_vec();
-    values.reserve_exact(more)?;
-    Ok(Row::from_vec(values))
 }
 
 /// A row of so many Nulls.

@@ -1,13 +1,11 @@
 mod ByHash
 mod Deduped
 mod GroupRows
-mod Marks
 mod Merges
 mod Neighbours
 mod Parts
 mod Pieces
 mod Places
-mod Rests
 mod Rising
 mod Runs
 mod Sums

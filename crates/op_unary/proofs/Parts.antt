@@ -1,26 +1,11 @@
 -- One of each of rows that come part by part.
-use Rattle.std.proofs.Common.{◌≡◌, ℕ, ◌+◌, ◌≤◌, min, Bool, true, false, List, [], ◌∷◌, ◌++◌, length, refl, sym, ◌∙◌, ap, arith}
+use Rattle.std.proofs.Common.{◌≡◌, ℕ, ◌+◌, ◌≤◌, Bool, true, false, List, [], ◌∷◌, ◌++◌, length, refl, sym, ◌∙◌, arith}
 use Rattle.std.specs.Prelude.{cond, not, filter}
-use Rattle.row_core.specs.Bags.{SameBag, count_of, one_of_each}
+use Rattle.row_core.specs.Bags.{SameBag, one_of_each}
 use Rattle.row_core.specs.Values.{same_row}
 use Rattle.bag_laws.specs.Rows.{OneRow as Row}
-use Rattle.bag_laws.proofs.Laws.{count-one_of_each, total-same}
+use Rattle.bag_laws.proofs.Laws.{total-same}
 use Rattle.bag_laws.proofs.Laws.{total}
-
--- one of each of one of each is that
-pub again : (kept rows : List Row) → SameBag kept (one_of_each rows) → SameBag (one_of_each kept) (one_of_each rows)
-again kept rows same = record {
-  counts = λ row.
-      count-one_of_each row kept
-      ∙ ap (min 1) (same.counts row ∙ count-one_of_each row rows)
-      ∙ twice (count_of row rows)
-      ∙ sym (count-one_of_each row rows);
-}
-  where
-    twice : (n : ℕ) → min 1 (min 1 n) ≡ min 1 n
-    twice n = omega arith
-
--- ---- how many they are
 
 one_each : (xs : List Row) → total (λ x. 1) xs ≡ length xs
 one_each [] = refl
@@ -29,13 +14,6 @@ one_each (x ∷ xs) = let rest = one_each xs in omega arith
 -- bags that are the same are equally large
 pub as_long : (xs ys : List Row) → SameBag xs ys → length xs ≡ length ys
 as_long xs ys same = sym (one_each xs) ∙ total-same (λ x. 1) xs ys same ∙ one_each ys
-
--- nothing stands twice in one of each
-pub all_distinct : (kept rows : List Row) → SameBag kept (one_of_each rows) → length kept ≤ length (one_of_each kept)
-all_distinct kept rows same =
-    let here = as_long kept (one_of_each rows) same in
-    let there = as_long (one_of_each kept) (one_of_each rows) (again kept rows same) in
-    omega (arith, here, there)
 
 total-filter : (w : Row → ℕ) (p : Row → Bool) (xs : List Row) → total w (filter p xs) ≡ total (λ x. cond (p x) (w x) 0) xs
 total-filter w p [] = refl

@@ -1,5 +1,5 @@
--- Rows by their places, as repeated ones are let go.
-use Rattle.std.specs.Prelude.{◌≡◌, ◌<◌, ℕ, zero, suc, Bool, true, false, All, List, [], ◌∷◌, get_or, length, map, take}
+-- Rows by their places.
+use Rattle.std.specs.Prelude.{◌≡◌, ◌<◌, ℕ, suc, All, List, [], get_or, length, map, take}
 use Rattle.row_core.specs.Bags.{SameBag}
 use Rattle.row_core.specs.declared.value.Value.{Value}
 use Rattle.op_unary.specs.Hashes.{hash_of}
@@ -27,14 +27,3 @@ pub record IsOrder (rows : List (List Value)) (order : List HashedRow) : Type 0 
 abbrev pub Rises : List HashedRow → Type 0
 Rises places = (k : ℕ) (d : HashedRow) → suc k < length places
     → (get_or places k d).hash < (get_or places (suc k) d).hash
-
--- how many marks before a place are set
-abbrev pub rank : List Bool → ℕ → ℕ
-rank [] place = 0
-rank (mark ∷ marks) zero = 0
-rank (true ∷ marks) (suc place) = suc (rank marks place)
-rank (false ∷ marks) (suc place) = rank marks place
-
--- the place that one has among the marked
-abbrev pub moved : List Bool → HashedRow → HashedRow
-moved marks hashed = record { hash = hashed.hash; place = rank marks hashed.place }

@@ -3,5 +3,4 @@ pub mod Cells
 pub mod Distinct
 pub mod Groups
 pub mod Hashes
-pub mod Inputs
 pub mod Keys

@@ -11,6 +11,6 @@ use std::alloc::Global;
 pub fn aggregate(alloc: Global, keys: &[u32], aggs: &[Agg], rows: &[Row]) -> Result<Rows, NoMemory>
     ensures { IfOk result (λ made. SameBag made (aggregated keys.now aggs.now rows.now)) }
 {
-    let groups = Groups::new(alloc, keys, aggs).with_part(alloc, rows)?;
+    let groups = Groups::new(alloc, keys, aggs).with_rows(alloc, rows)?;
     groups.into_rows(alloc)
 }

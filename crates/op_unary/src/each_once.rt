@@ -11,7 +11,7 @@ use std::alloc::Global;
 pub fn distinct(alloc: Global, rows: &[Row]) -> Result<Rows, NoMemory>
     ensures { IfOk result (λ kept. SameBag kept (one_of_each rows.now)) }
 {
-    let firsts = first_places(rows, Vec::new(alloc))?;
+    let firsts = first_places(alloc, rows)?;
     copies_at(alloc, rows, firsts.as_slice())
 }
 

@@ -7,16 +7,16 @@ ghost use Rattle.op_unary.specs.Distinct.{rows_at, ArePlaces, IsOrder, Rises};
 use crate::hashed_row::HashedRow;
 use crate::hashing::hash_row;
 use row_core::{NoMemory, Row, cmp_rows};
+use std::alloc::Global;
 use std::cmp::Ordering;
 
-/// The places of one of each row, by hash, where the first of the rows are in this order.
-pub fn first_places(rows: &[Row], order: Vec<HashedRow>) -> Result<Vec<HashedRow>, NoMemory>
-    requires { IsOrder rows.now order.items }
+/// The places of one of each row, by hash.
+pub fn first_places(alloc: Global, rows: &[Row]) -> Result<Vec<HashedRow>, NoMemory>
     ensures places { IfOk result (λ firsts. ArePlaces rows.now firsts.items) }
     ensures each { IfOk result (λ firsts.
         SameBag (rows_at rows.now firsts.items) (one_of_each rows.now)) }
 {
-    let firsts = by_hash(rows, with_others(rows, order)?)?;
+    let firsts = by_hash(rows, hashed(alloc, rows)?)?;
     if rises(firsts.as_slice()) {
         return Ok(firsts);
     }
@@ -58,14 +58,13 @@ fn by_row(rows: &[Row], places: Vec<HashedRow>) -> Vec<HashedRow>
     firsts
 }
 
-// The same places, and behind them those of the other rows.
-fn with_others(rows: &[Row], order: Vec<HashedRow>) -> Result<Vec<HashedRow>, NoMemory>
-    requires { IsOrder rows.now order.items }
+// The places of all rows, in their order.
+fn hashed(alloc: Global, rows: &[Row]) -> Result<Vec<HashedRow>, NoMemory>
     ensures order { IfOk result (λ all. IsOrder rows.now all.items) }
     ensures all { IfOk result (λ all. length all.items ≡ length rows.now) }
 {
-    let mut all = order;
-    for place in all.len()..rows.len() {
+    let mut all = Vec::with_capacity(alloc, rows.len())?;
+    for place in 0..rows.len() {
         let hash = hash_row(&rows[place]);
         all.push(HashedRow { hash, place })?;
     }

@@ -55,14 +55,7 @@ impl<'a> Groups<'a> {
 
     /// The same with further rows. Fails for want of memory, or where the rows of one key are more than
     /// 64 bits can count or their sum leaves 128 bits.
-    pub fn with_rows(self, alloc: Global, rows: Rows) -> Result<Self, NoMemory>
-        ensures { IfOk result (λ table. GainsRows self.entry table rows) }
-    {
-        self.with_part(alloc, rows.as_slice())
-    }
-
-    /// `with_rows` of rows that stay their owner's.
-    pub fn with_part(self, alloc: Global, rows: &[Row]) -> Result<Self, NoMemory>
+    pub fn with_rows(self, alloc: Global, rows: &[Row]) -> Result<Self, NoMemory>
         ensures { IfOk result (λ table. GainsRows self.entry table rows.now) }
     {
         let Groups {

@@ -5,8 +5,7 @@ ghost use Rattle.plan_model.specs.Checks.{columns_fit};
 ghost use Rattle.plan_model.specs.Operators.{is_unary};
 
 use crate::aggregating::aggregate;
-use crate::by_row::{by_row, by_row_owned};
-use crate::distinct_rows::distinct_owned;
+use crate::by_row::by_row;
 use crate::each_once::distinct;
 use plan_model::Op;
 use row_core::{NoMemory, Rows};
@@ -28,26 +27,6 @@ pub fn apply(alloc: Global, op: &Op, rows: &Rows) -> Result<Rows, NoMemory>
         Op::Filter { .. } | Op::Project { .. } | Op::Explode { .. } | Op::Union => {
             by_row(alloc, op, rows.as_slice())
         }
-        Op::Source { .. } | Op::Join { .. } | Op::Sink { .. } => unreachable!(),
-    }
-}
-
-/// What `apply` gives, of rows that are the call's own: a row that stays is moved, and the others
-/// are let go. No row is copied.
-pub fn apply_owned(alloc: Global, op: &Op, rows: Rows) -> Result<Rows, NoMemory>
-    requires unary { IsTrue (is_unary op.now) }
-    requires columns { All (λ row. IsTrue (columns_fit op.now (length row ∷ []))) rows }
-    ensures { IfOk result (λ given. SameBag given (applied op.now rows)) }
-{
-    match op {
-        Op::Aggregate { keys, aggs } => {
-            aggregate(alloc, keys.as_slice(), aggs.as_slice(), rows.as_slice())
-        }
-        Op::Distinct => distinct_owned(alloc, rows),
-        Op::Filter { .. } | Op::Project { .. } | Op::Explode { .. } => {
-            by_row_owned(alloc, op, rows)
-        }
-        Op::Union => Ok(rows),
         Op::Source { .. } | Op::Join { .. } | Op::Sink { .. } => unreachable!(),
     }
 }

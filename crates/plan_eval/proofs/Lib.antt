@@ -1,9 +1,4 @@
-mod ByBatch
 mod Frames
 mod Operated
-mod Ran
-mod Results
-mod Stages
 mod Steps
 mod Taken
-mod Unions

@@ -3,17 +3,15 @@ use Rattle.std.proofs.Common.{◌≡◌, ℕ, true, List, [], ◌∷◌, length,
 use Rattle.std.proofs.lemmas.List.{append-nil}
 use Rattle.row_core.specs.Bags.{SameBag}
 use Rattle.row_core.specs.declared.bytes.Bytes.{Bytes}
-use Rattle.row_core.specs.declared.columns.Columns.{Columns}
 use Rattle.bag_laws.specs.Rows.{OneRow as Row}
 use Rattle.operator_laws.proofs.Laws.{node_applies}
 use Rattle.operator_laws.specs.Applied.{applied}
 use Rattle.plan_model.proofs.Laws.{wide_at}
 use Rattle.plan_model.specs.Checks.{takes, columns_fit}
-use Rattle.plan_model.specs.Nodes.{IsGood, bag_widths}
-use Rattle.plan_model.specs.Operators.{is_row_wise, is_unary}
-use Rattle.plan_model.specs.Plans.{Bag, bag_at}
+use Rattle.plan_model.specs.Nodes.{IsGood}
+use Rattle.plan_model.specs.Operators.{is_unary}
+use Rattle.plan_model.specs.Plans.{Bag}
 use Rattle.plan_model.specs.Widths.{width_of}
-use Rattle.plan_model.specs.declared.aggs.Aggs.{Aggs}
 use Rattle.plan_model.specs.declared.join_kind.JoinKind.{JoinKind}
 use Rattle.plan_model.specs.declared.key_pairs.KeyPairs.{KeyPairs}
 use Rattle.plan_model.specs.declared.schema.Schema.{Schema}
@@ -33,17 +31,6 @@ output_of files op bag width rows one good wide same = record {
   rows = λ gives. subst (λ (all : List Row). SameBag rows all)
       (ap (applied op) (sym (append-nil bag.rows)) ∙ sym (node_applies files op (bag ∷ []) one good.number)) same;
 }
-
-pub row_wise_else : (op : Op) → is_unary op ≡ true → ((keys : Columns) (aggs : Aggs) → op ≡ Aggregate keys aggs → ⊥) → (op ≡ Distinct → ⊥) → IsTrue (is_row_wise op)
-row_wise_else (Source table columns) one aggregate distinct = cc
-row_wise_else (Filter test) one aggregate distinct = refl
-row_wise_else (Project exprs) one aggregate distinct = refl
-row_wise_else (Explode column separator) one aggregate distinct = refl
-row_wise_else Union one aggregate distinct = refl
-row_wise_else (Aggregate keys aggs) one aggregate distinct = absurd (aggregate keys aggs refl)
-row_wise_else Distinct one aggregate distinct = absurd (distinct refl)
-row_wise_else (Join kind keys) one aggregate distinct = cc
-row_wise_else (Sink name) one aggregate distinct = cc
 
 -- what is neither a source, nor a join, nor a sink
 pub unary_else : (op : Op) → ((table : Bytes) (columns : Schema) → op ≡ Source table columns → ⊥) → ((kind : JoinKind) (keys : KeyPairs) → op ≡ Join kind keys → ⊥)

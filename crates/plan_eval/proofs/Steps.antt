@@ -1,16 +1,14 @@
 -- One node more: its rows are the definition's, and so is the text so far.
-use Rattle.std.proofs.Common.{◌≡◌, ℕ, zero, suc, ◌+◌, ◌<◌, ◌≤◌, true, not, nat_lt, leb-true, ◌⊎◌, inl, inr, List, [], ◌∷◌, ◌++◌, length, map, get_or, All, IsTrue, refl, sym, subst, ◌∙◌, ap, arith, length-append}
-use Rattle.std.proofs.Math.Seq.{get_or-append_seam}
+use Rattle.std.proofs.Common.{◌≡◌, ℕ, zero, suc, ◌<◌, ◌≤◌, true, not, nat_lt, ◌⊎◌, inl, inr, List, [], ◌∷◌, ◌++◌, length, map, get_or, All, IsTrue, refl, sym, subst, ◌∙◌, ap, arith, length-append}
 use Rattle.std.proofs.lemmas.Bool.Decides.{nat_tests}
-use Rattle.std.proofs.lemmas.List.{length-map, map-append, append_assoc, append-nil, get_or_append_left}
+use Rattle.std.proofs.lemmas.List.{length-map, map-append, append_assoc, append-nil}
 use Rattle.std.proofs.lemmas.List.Elements.{All-append, All-map}
 use Rattle.std.proofs.lemmas.List.Sorted.{All-permutation}
-use Rattle.std.proofs.lemmas.List.Sums.{AllPass-from_list_all}
 use Rattle.row_core.specs.Bags.{SameBag}
 use Rattle.bag_laws.proofs.Laws.{permutation_of_same, same_on, same_refl, same_sym}
 use Rattle.plan_model.specs.Checks.{takes, columns_fit, widths_agree, gives_rows, is_sink}
-use Rattle.plan_model.specs.Plans.{Bag, bag_at, bag_of, bags_from, bags_of, empty_bag, sink_section, sink_sections, committed_text}
-use Rattle.plan_model.specs.Widths.{width_of, widths_of, widths_from, input_widths}
+use Rattle.plan_model.specs.Plans.{Bag, bag_at, bag_of, bags_of, empty_bag, sink_section, sink_sections, committed_text}
+use Rattle.plan_model.specs.Widths.{width_of, widths_of, input_widths}
 use Rattle.plan_model.specs.declared.node.Node.{Node}
 use Rattle.plan_model.specs.declared.op.Op.{Op}
 use Rattle.plan_model.specs.declared.op.Op.TheVariants.{Source, Filter, Project, Explode, Union, Aggregate, Distinct, Join, Sink}

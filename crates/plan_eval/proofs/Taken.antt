@@ -1,8 +1,6 @@
 -- The last node that takes the rows of another.
 use Rattle.std.proofs.Common.{◌≡◌, ℕ, ◌+◌, ◌<◌, ◌≤◌, ◌⊎◌, inl, inr, All, List, length, take, get_or, slice_index_or, sym, subst, ap, ◌∙◌, arith, length-take-le}
 use Rattle.std.proofs.lemmas.List.{get_or_default}
-use Rattle.std.proofs.lemmas.List.Sums.{AllPass-from_list_all}
-use Rattle.plan_model.specs.Checks.{gives_rows}
 use Rattle.plan_model.specs.declared.node.Node.{Node}
 use Rattle.plan_model.specs.Nodes.{IsGoodNode}
 use Rattle.plan_model.proofs.Laws.{gives_within}

@@ -1,6 +1,5 @@
 -- What running a node does, beside the bags of the definition.
-use Rattle.std.specs.Prelude.{◌≡◌, ℕ, ◌<◌, nat_eq, nat_lt, Bool, not, ◌||◌, List, ◌++◌, length, map, get_or, slice_set, All, IsTrue, if◌then◌else◌}
-use Rattle.std.specs.List.{list_any}
+use Rattle.std.specs.Prelude.{◌≡◌, ℕ, ◌<◌, nat_lt, Bool, not, List, ◌++◌, length, map, get_or, All, IsTrue}
 use Rattle.row_core.specs.Bags.{SameBag}
 use Rattle.row_core.specs.declared.value.Value.{Value}
 use Rattle.plan_model.specs.Nodes.{IsGood, bag_widths}
@@ -25,17 +24,6 @@ inputs_in e inputs = map (bag_at e.outputs.items) inputs
 -- some node behind the next one takes the rows at this place
 abbrev pub is_taken_later : Evaluation → ℕ → Bool
 is_taken_later e place = nat_lt (length e.outputs.items) (get_or e.last.items place 0)
-
--- a later node takes the rows at this place, or the next one again, among these further inputs
-abbrev pub is_needed : Evaluation → ℕ → List ℕ → Bool
-is_needed e place further = is_taken_later e place || list_any (nat_eq place) further
-
--- the bags with these rows at a place, if they are taken later
-abbrev pub with_kept : Evaluation → ℕ → List (List Value) → List Bag
-with_kept e place rows =
-    if is_taken_later e place
-    then slice_set e.outputs.items place (bag_with (bag_at e.outputs.items place).width rows)
-    else e.outputs.items
 
 -- the bag is what the operator gives on these inputs; that of a sink is left open
 pub record IsOutput (files : List ℕ → List (List ℕ)) (op : Op) (inputs : List Bag) (bag : Bag) : Type 0 where

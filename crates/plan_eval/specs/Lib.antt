@@ -1,5 +1,3 @@
 pub mod Evaluated
-pub mod Outputs
-pub mod Pipelines
 pub mod Tables
 pub mod Takers

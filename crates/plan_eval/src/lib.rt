@@ -1,21 +1,13 @@
-//! The plain evaluator: the text that a plan commits over given tables, with each node's rows found
-//! once. docs/SEMANTICS.md says what each operator gives, docs/FORMATS.md how the text looks.
+//! The plain evaluator: the text that a plan commits over given tables, node by node, each with all
+//! its rows. docs/SEMANTICS.md says what each operator gives, docs/FORMATS.md how the text looks.
 #![tactic(auto)]
 
 mod answering;
-mod batches;
-mod collecting;
 mod evaluation;
-mod file_batch;
 mod files;
-mod join_rule;
 mod node_output;
-mod node_rows;
-mod pipeline;
-mod reading;
-mod ready_stage;
-mod scan;
-mod stage;
+mod operating;
+mod source_rows;
 mod table_files;
 mod table_rows;
 mod takers;

@@ -1,4 +1,4 @@
-use csv_tables::{SinkLines, read_table, sink_text, sink_text_owned};
+use csv_tables::{SinkLines, read_table, sink_text};
 use plan_model::{Kind, Kinds};
 use row_core::{Bytes, NoMemory, Rows};
 use std::alloc::Global;
@@ -45,19 +45,18 @@ fn by_lines(alloc: Global, rows: &Rows) -> Result<Bytes, NoMemory> {
 }
 
 // Whether each way of writing the rows gives this text.
-fn is_written(alloc: Global, rows: Rows, want: &str) -> Result<bool, NoMemory> {
-    let text = sink_text(alloc, &rows)?;
-    let lines = by_lines(alloc, &rows)?;
-    let owned = sink_text_owned(alloc, rows)?;
+fn is_written(alloc: Global, rows: &Rows, want: &str) -> Result<bool, NoMemory> {
+    let text = sink_text(alloc, rows)?;
+    let lines = by_lines(alloc, rows)?;
     let want = want.as_bytes();
-    Ok(text.as_slice() == want && lines.as_slice() == want && owned.as_slice() == want)
+    Ok(text.as_slice() == want && lines.as_slice() == want)
 }
 
 #[test]
 fn tables_become_sorted_lines(rt: HostRuntime) -> Result<(), Fail> {
     for (letters, text, want) in TABLES {
         let rows = rows_of(rt.alloc(), letters, text)?;
-        assert!(rt; is_written(rt.alloc(), rows, want)?, "at {text}");
+        assert!(rt; is_written(rt.alloc(), &rows, want)?, "at {text}");
     }
     Ok(())
 }

@@ -1,4 +1,4 @@
-use op_join::{BuildSide, join, join_owned};
+use op_join::join;
 use plan_model::{JoinKind, KeyPairs, Widths};
 use row_core::{NoMemory, Row, Rows, Value};
 use std::alloc::Global;
@@ -28,18 +28,11 @@ fn multiples(alloc: Global, of: i64, limit: i64) -> Result<Rows, NoMemory> {
     Ok(rows)
 }
 
-// How many rows the join of these by their columns 0 has, borrowed and owned.
-fn counts(
-    alloc: Global,
-    kind: JoinKind,
-    left: Rows,
-    right: Rows,
-) -> Result<(usize, usize), NoMemory> {
+// How many rows the join of these by their columns 0 has.
+fn count(alloc: Global, kind: JoinKind, left: &Rows, right: &Rows) -> Result<usize, NoMemory> {
     let keys = KeyPairs::from_vec(vec![in alloc; (0, 0)]?);
     let widths = Widths { left: 1, right: 1 };
-    let borrowed = join(alloc, kind, &keys, widths, &left, &right)?.len();
-    let owned = join_owned(alloc, kind, &keys, widths, left, right)?.len();
-    Ok((borrowed, owned))
+    Ok(join(alloc, kind, &keys, widths, left, right)?.len())
 }
 
 // A kind of join, and how many rows it has of 1, 2, 2 and 1, 1, 3.
@@ -55,22 +48,11 @@ const KINDS: &[(JoinKind, usize)] = &[
 #[test]
 fn each_kind_has_its_rows(rt: HostRuntime) -> Result<(), Fail> {
     let alloc = rt.alloc();
-    for (kind, count) in KINDS {
-        let (left, right) = (rows_of(alloc, &[1, 2, 2])?, rows_of(alloc, &[1, 1, 3])?);
-        assert_eq!(rt; counts(alloc, *kind, left, right)?, (*count, *count));
+    for (kind, rows) in KINDS {
+        let left = rows_of(alloc, &[1, 2, 2])?;
+        let right = rows_of(alloc, &[1, 1, 3])?;
+        assert_eq!(rt; count(alloc, *kind, &left, &right)?, *rows);
     }
-    Ok(())
-}
-
-#[test]
-fn batches_probe_one_build_side(rt: HostRuntime) -> Result<(), Fail> {
-    let alloc = rt.alloc();
-    let keys = KeyPairs::from_vec(vec![in alloc; (0, 0)]?);
-    let widths = Widths { left: 1, right: 1 };
-    let right = rows_of(alloc, &[1, 1, 3])?;
-    let side = BuildSide::new(alloc, JoinKind::Left, &keys, widths, &right)?;
-    assert_eq!(rt; side.probe(alloc, rows_of(alloc, &[1, 2])?)?.len(), 3);
-    assert_eq!(rt; side.probe(alloc, rows_of(alloc, &[2])?)?.len(), 1);
     Ok(())
 }
 
@@ -85,10 +67,10 @@ const MANY: &[(JoinKind, (i64, i64), (i64, i64), usize)] = &[
 #[test]
 fn many_rows_are_joined_quickly(rt: HostRuntime) -> Result<(), Fail> {
     let alloc = rt.alloc();
-    for (kind, (left, lefts), (right, rights), count) in MANY {
+    for (kind, (left, lefts), (right, rights), rows) in MANY {
         let left = multiples(alloc, *left, *lefts)?;
         let right = multiples(alloc, *right, *rights)?;
-        assert_eq!(rt; counts(alloc, *kind, left, right)?, (*count, *count));
+        assert_eq!(rt; count(alloc, *kind, &left, &right)?, *rows);
     }
     Ok(())
 }

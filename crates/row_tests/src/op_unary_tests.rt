@@ -2,7 +2,7 @@ ghost use Rattle.std.specs.Prelude.{◌∷◌, [], All, IsTrue, length};
 ghost use Rattle.plan_model.specs.Checks.{columns_fit};
 ghost use Rattle.plan_model.specs.Operators.{is_unary};
 
-use op_unary::{DistinctRows, Groups, apply, apply_owned};
+use op_unary::apply;
 use plan_model::{Agg, Aggs, Exprs, Op};
 use row_core::{Columns, Expr, NoMemory, Row, Rows, Value};
 use std::alloc::Global;
@@ -26,14 +26,13 @@ fn fits(op: &Op, rows: &[Row]) -> bool
     rows.iter().all(|row| row.len() < 1000 && op.columns_fit(&[row.len() as u32]))
 }
 
-// How many rows the operator gives on three, borrowed and owned.
+// How many rows the operator gives on three.
 fn check(rt: &impl Abort, alloc: Global, op: &Op, count: usize) -> Result<(), NoMemory>
     requires { IsTrue (is_unary op.now) }
 {
     let rows = rows_of(alloc, &[(1, 12), (1, 12), (2, 3)])?;
     assert!(rt; fits(op, rows.as_slice()));
     assert_eq!(rt; apply(alloc, op, &rows)?.len(), count);
-    assert_eq!(rt; apply_owned(alloc, op, rows)?.len(), count);
     Ok(())
 }
 
@@ -50,20 +49,5 @@ fn operators_give_as_many_rows(rt: HostRuntime) -> Result<(), Fail> {
     let keys = Columns::from_vec(vec![in alloc; 0]?);
     let aggs = Aggs::from_vec(vec![in alloc; Agg::Count, Agg::Sum(1), Agg::Min(1), Agg::Max(1)]?);
     check(&rt, alloc, &Op::Aggregate { keys, aggs }, 2)?;
-    Ok(())
-}
-
-#[test]
-fn batches_are_taken_together(rt: HostRuntime) -> Result<(), Fail> {
-    let alloc = rt.alloc();
-    let aggs = [Agg::Count];
-    let mut distinct = DistinctRows::new(alloc);
-    let mut groups = Groups::new(alloc, &[0], &aggs);
-    for batch in [[(1, 2), (1, 2)], [(1, 2), (3, 4)]] {
-        distinct = distinct.with_rows(alloc, rows_of(alloc, &batch)?)?;
-        groups = groups.with_rows(alloc, rows_of(alloc, &batch)?)?;
-    }
-    assert_eq!(rt; distinct.into_rows(alloc)?.len(), 2);
-    assert_eq!(rt; groups.into_rows(alloc)?.len(), 2);
     Ok(())
 }

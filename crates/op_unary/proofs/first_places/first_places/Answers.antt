@@ -13,9 +13,9 @@ use Rattle.op_unary.proofs.first_places.first_places.Goals as goal
 left_each : (c : In_ok-firsts) → SameBag (one_of_each (map (row_at c.args.rows.now) c.in_ok-firsts.firsts.items)) (one_of_each c.args.rows.now)
 left_each c =
     let rows = c.args.rows.now in
-    let all = c.in_ok-with_others.field-0.items in
+    let all = c.in_ok-hashed.field-0.items in
     let whole : SameBag (map (row_at rows) all) rows =
-    subst (λ (l : List Row). SameBag (map (row_at rows) all) l) (take_all (length all) rows (omega (arith, c.in_ok-with_others.ensures.all))) c.in_ok-with_others.ensures.order.front in
+    subst (λ (l : List Row). SameBag (map (row_at rows) all) l) (take_all (length all) rows (omega (arith, c.in_ok-hashed.ensures.all))) c.in_ok-hashed.ensures.order.front in
     same_on c.in_ok-firsts.ensures.same (SameBag-one_of_each (map (row_at rows) all) rows whole)
 
 pub returns-then-rises-clause-each : goal.returns-then-rises-clause-each
