@@ -1,0 +1,4 @@
+pub mod Reports
+pub mod Tasks
+pub mod Claims
+pub mod Tokens
