@@ -1,0 +1,10 @@
+pub mod Jobs
+pub mod Standing
+pub mod Differing
+pub mod Starting
+pub mod Reading
+pub mod Unfinished
+pub mod Phases
+pub mod Gone
+pub mod Opening
+pub mod Causes
